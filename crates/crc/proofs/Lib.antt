@@ -1,0 +1,5 @@
+pub mod Xor
+pub mod Digits
+pub mod Linear
+pub mod Division
+pub mod Laws

@@ -1,0 +1,3 @@
+pub mod Register
+pub mod Book
+pub mod Theorems

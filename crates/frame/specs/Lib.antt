@@ -1,0 +1,4 @@
+pub mod Counts
+pub mod Header
+pub mod SetUp
+pub mod Table

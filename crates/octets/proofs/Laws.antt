@@ -1,0 +1,62 @@
+-- Laws of `laid`, of octets stored one by one, and of numbers in octets.
+-- Assumes nothing.
+use mathlib.Core.Path.{_≡_, _∙_, ap}
+use mathlib.Core.List.{List, [], _∷_, _++_}
+use Prim.Native.Nat.{ℕ, _+_, _*_, _/_, _%_, _≤_, _<_}
+use native.Mathlib.Nat.{add-zero, add-assoc, div-one}
+use native.Mathlib.Numerals.{add-one, add-two, add-three}
+use native.Mathlib.Omega.{arith}
+use lib.ListN.{length, getD, set, take, drop, length-append, length-take, length-drop}
+use lib.Seq.{paste, paste-suc, sets-eq, take-length}
+use Rattle.octets.specs.Laid.{laid}
+use Rattle.octets.specs.Numbers.{numberAt, octetsOf}
+
+pub length-laid : (d : List ℕ) (at : ℕ) (s : List ℕ) → at + length s ≤ length d → length (laid d at s) ≡ length d
+unfolding laid
+length-laid d at s h = simp (length-append, length-take, length-drop) (omega arith)
+
+-- a turn of a loop that copies s into d₀, of which d has i octets already
+pub copied : (d₀ d s : List ℕ) (at i v : ℕ) → at + i < length d₀ → i < length s → v ≡ getD s i 0 → d ≡ paste d₀ at s i
+    → set d (at + i) v ≡ paste d₀ at s (i + 1)
+copied d₀ d s at i v hd hs hv e = rw (e, hv, add-one) (paste-suc d₀ at s i 0 hd hs)
+
+-- a copy of all of s is s laid
+pub paste-all : (d : List ℕ) (at : ℕ) (s : List ℕ) (n : ℕ) → n ≡ length s → paste d at s n ≡ laid d at s
+unfolding laid
+paste-all d at s n e = rw e (ap (λ (l : List ℕ). take at d ++ l ++ drop (at + length s) d) (take-length s))
+
+-- the octets of a number stored one after the other
+pub stored-one : (d : List ℕ) (at v : ℕ) → at + 1 ≤ length d → set d at (v % 256) ≡ laid d at (octetsOf 1 v)
+unfolding laid octetsOf
+stored-one d at v h = rw div-one (sets-eq (v % 256 ∷ []) d at h)
+
+pub stored-two : (d : List ℕ) (at v : ℕ) → at + 2 ≤ length d
+    → set (set d at (v / 256 % 256)) (at + 1) (v % 256) ≡ laid d at (octetsOf 2 v)
+unfolding laid octetsOf
+stored-two d at v h = rw (add-one, div-one) (sets-eq (v / 256 % 256 ∷ v % 256 ∷ []) d at h)
+
+pub stored-four : (d : List ℕ) (at v : ℕ) → at + 4 ≤ length d
+    → set (set (set (set d at (v / 16777216 % 256)) (at + 1) (v / 65536 % 256)) (at + 2) (v / 256 % 256)) (at + 3) (v % 256)
+    ≡ laid d at (octetsOf 4 v)
+unfolding laid octetsOf
+stored-four d at v h =
+    rw (add-one, add-two, add-three, div-one)
+    (sets-eq (v / 16777216 % 256 ∷ v / 65536 % 256 ∷ v / 256 % 256 ∷ v % 256 ∷ []) d at h)
+
+-- a number in two octets, and in four
+pub number-two : (l : List ℕ) (at : ℕ) → numberAt l at 2 ≡ getD l at 0 * 256 + getD l (at + 1) 0
+unfolding numberAt
+number-two l at = rw add-zero (omega arith)
+
+pub number-four : (l : List ℕ) (at : ℕ) → numberAt l at 4 ≡ numberAt l at 2 * 65536 + numberAt l (at + 2) 2
+unfolding numberAt
+number-four l at = simp (add-zero, add-assoc) (omega arith)
+
+pub number-six : (l : List ℕ) (at : ℕ)
+    → numberAt l at 6 ≡ numberAt l at 2 * 4294967296 + numberAt l (at + 2) 2 * 65536 + numberAt l (at + 4) 2
+unfolding numberAt
+number-six l at = simp (add-zero, add-assoc) (omega arith)
+
+-- two octets hold less than 2^16
+pub number-two-lt : (l : List ℕ) (at : ℕ) → getD l at 0 < 256 → getD l (at + 1) 0 < 256 → numberAt l at 2 < 65536
+number-two-lt l at a b = omega (arith, number-two l at)
