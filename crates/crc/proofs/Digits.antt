@@ -1,12 +1,12 @@
 -- Lists of binary digits, the highest first: the numbers that they write, and the digits of a number and of octets.
-use mathlib.Core.Path.{_≡_, refl, sym, ap, ap₂, _∙_}
+use mathlib.Core.Path.{_≡_, refl, sym, ap, _∙_}
 use mathlib.Core.List.{List, [], _∷_, _++_, append-assoc}
 use Prim.Native.Nat.{ℕ, zero, suc, _+_, _*_, _/_, _%_, _^_, _<_}
 use native.Mathlib.Nat.{mod-lt, mod-one, zero-mul, zero-add, add-mul, add-assoc, mul-assoc, pow-succ'}
 use native.Mathlib.Numerals.{one-add}
 use native.Mathlib.Omega.{arith}
 use lib.Arith.{digits-lt}
-use lib.ListN.{length, length-append}
+use lib.ListN.{length, getD, length-append}
 use lib.Pow.{pow-pos, pow-add, mod-pow-add}
 use Rattle.crc.specs.Register.{bits, bitsOf}
 use Rattle.crc.specs.Book.{number}
@@ -15,6 +15,10 @@ use Rattle.crc.specs.Book.{number}
 abbrev pub Digits : List ℕ → Type 0
 Digits [] = Unit {0}
 Digits (b ∷ bs) = (b < 2) × Digits bs
+
+pub digits-from : (bs : List ℕ) → ((i : ℕ) → getD bs i 0 < 2) → Digits bs
+digits-from [] f = tt
+digits-from (b ∷ bs) f = (f 0, digits-from bs (λ i. f (suc i)))
 
 pub digits-append : (a b : List ℕ) → Digits a → Digits b → Digits (a ++ b)
 digits-append [] b p q = q

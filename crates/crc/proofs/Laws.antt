@@ -1,6 +1,6 @@
 -- The theorems of specs/Theorems.antt.
 use mathlib.Core.Path.{_≡_, refl, sym, ap, ap₂, _∙_}
-use mathlib.Core.List.{List, [], _∷_, _++_, append-nil}
+use mathlib.Core.List.{[], _∷_, append-nil}
 use Prim.Native.Nat.{ℕ, _+_, _*_, _^_, _<_}
 use native.Mathlib.Nat.{mod-eq-of-lt, mul-one}
 use native.Mathlib.Omega.{arith}
@@ -8,15 +8,18 @@ use lib.Bits.{bitXor, xor-self, xor-lt}
 use lib.ListN.{length, replicate}
 use Rattle.crc.specs.Register.{over, bits, bitsOf, preset, syndromeOf}
 use Rattle.crc.specs.Book.{number}
-use Rattle.crc.specs.Theorems.{Is-book, Own-field, Empty-field, In-16-bits}
+use Rattle.crc.specs.Theorems.{Is-book, Is-remainder, Own-field, Empty-field, In-16-bits}
 use Rattle.crc.proofs.Xor.{eq-of-xor}
-use Rattle.crc.proofs.Digits.{Digits, digits-append, digits-bits, digits-bitsOf, number-append, number-bits, length-bits}
+use Rattle.crc.proofs.Digits.{digits-from, digits-bitsOf, number-append, number-bits, length-bits}
 use Rattle.crc.proofs.Linear.{turns, turns-zero, turns-of-zero, over-lt, over-top, syndrome-more}
-use Rattle.crc.proofs.Division.{division}
+use Rattle.crc.proofs.Division.{division, remainder}
 
 pub is-book : Is-book
 unfolding syndromeOf number
 is-book m = sym (division (bitsOf m) (replicate 16 1) (digits-bitsOf m) (omega arith) refl)
+
+pub is-remainder : Is-remainder
+is-remainder n p l f = remainder n p l (digits-from p f)
 
 pub empty-field : Empty-field
 unfolding syndromeOf bitsOf over
@@ -45,6 +48,7 @@ pub own-field : Own-field
 own-field m hi lo hh hl =
     let s = syndromeOf m in
     let v = hi * 256 + lo in
-    let e = syndrome-more m (hi ∷ lo ∷ []) ∙ two-octets s hi lo (in-16-bits m) hh hl in
-    (λ z. sym (eq-of-xor s v (turns-zero 16 (bitXor s v) (xor-lt 16 s v (in-16-bits m) (omega arith)) (sym e ∙ z)))
-    , λ q. e ∙ ap (λ (x : ℕ). turns 16 (bitXor s x)) q ∙ ap (turns 16) (xor-self s) ∙ turns-of-zero 16)
+    let e = syndrome-more m (hi ∷ lo ∷ []) ∙ two-octets s hi lo (in-16-bits m) hh hl in (
+      λ z. sym (eq-of-xor s v (turns-zero 16 (bitXor s v) (xor-lt 16 s v (in-16-bits m) (omega arith)) (sym e ∙ z))),
+      λ q. e ∙ ap (λ (x : ℕ). turns 16 (bitXor s x)) q ∙ ap (turns 16) (xor-self s) ∙ turns-of-zero 16,
+    )

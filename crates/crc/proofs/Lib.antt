@@ -1,5 +1,6 @@
 pub mod Xor
 pub mod Digits
 pub mod Linear
+pub mod Polynomial
 pub mod Division
 pub mod Laws

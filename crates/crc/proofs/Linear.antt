@@ -1,13 +1,13 @@
 -- The register: a turn of it, `timesX`, is linear, stays below 2^16 and takes only zero to zero. So digits in a row, sixteen at most, are
 -- their number at the register's top and then as many turns.
 use mathlib.Core.Path.{_≡_, refl, sym, ap, ap₂, _∙_}
-use mathlib.Core.List.{List, [], _∷_, _++_}
+use mathlib.Core.List.{List, [], _∷_, _++_, append-nil}
 use Prim.Native.Nat.{ℕ, zero, suc, _+_, _*_, _/_, _%_, _^_, _<_}
-use native.Mathlib.Nat.{zero-mul, mod-eq-of-lt, div-eq-of-lt, add-suc, add-mul, mul-assoc, pow-suc}
+use native.Mathlib.Nat.{zero-mul, mod-eq-of-lt, div-eq-of-lt, add-mul, mul-assoc, pow-suc}
 use native.Mathlib.Omega.{arith}
 use lib.ListN.{length}
-use lib.Pow.{pow-pos, pow-add, split, high, shl-lt}
-use lib.Bits.{bitXor, xor-block, xor-shr, xor-self, xor-comm, xor-zero-r, xor-shifted, xor-lt}
+use lib.Pow.{pow-add, split, high, shl-lt}
+use lib.Bits.{bitXor, xor-block, xor-shr, xor-self, xor-zero-r, xor-shifted, xor-lt}
 use Rattle.crc.specs.Register.{generator, timesX, step, over, bits, bitsOf, preset, syndromeOf}
 use Rattle.crc.specs.Book.{number}
 use Rattle.crc.proofs.Xor.{by-digit, xor-assoc, xor-swap, xor-double, eq-of-xor}
@@ -35,8 +35,8 @@ timesX-lt =
 pub timesX-zero : (r : ℕ) → r < 2 ^ 16 → timesX r ≡ 0 → r ≡ 0
 timesX-zero =
     by-top (λ r. timesX r ≡ 0 → r ≡ 0)
-      (λ d n hd hn e. by-digit (λ d. n * 2 ≡ d * 0x1021 → d * 2 ^ 15 + n ≡ 0) (λ q. omega arith) (λ q. omega arith) d hd
-        (eq-of-xor (n * 2) (d * 0x1021) (sym (turn d n hd hn) ∙ e)))
+    (λ d n hd hn e. by-digit (λ d. n * 2 ≡ d * 0x1021 → d * 2 ^ 15 + n ≡ 0) (λ q. omega arith) (λ q. omega arith) d hd
+    (eq-of-xor (n * 2) (d * 0x1021) (sym (turn d n hd hn) ∙ e)))
 
 pub timesX-low : (r : ℕ) → r < 2 ^ 15 → timesX r ≡ r * 2
 unfolding timesX
@@ -45,13 +45,13 @@ timesX-low r h = ap (λ (d : ℕ). bitXor (r * 2) (d * generator)) (div-eq-of-lt
 digit-times : (d e : ℕ) → d < 2 → e < 2 → bitXor d e * generator ≡ bitXor (d * generator) (e * generator)
 digit-times d e hd he =
     by-digit (λ d. bitXor d e * generator ≡ bitXor (d * generator) (e * generator)) refl
-      (by-digit (λ e. bitXor 1 e * generator ≡ bitXor (1 * generator) (e * generator)) refl refl e he) d hd
+    (by-digit (λ e. bitXor 1 e * generator ≡ bitXor (1 * generator) (e * generator)) refl refl e he) d hd
 
 pub timesX-xor : (a b : ℕ) → a < 2 ^ 16 → b < 2 ^ 16 → timesX (bitXor a b) ≡ bitXor (timesX a) (timesX b)
 unfolding timesX
 timesX-xor a b ha hb =
     ap₂ bitXor (xor-double a b)
-      (ap (λ (d : ℕ). d * generator) (xor-shr a b 15) ∙ digit-times (a / 2 ^ 15) (b / 2 ^ 15) (omega arith) (omega arith))
+    (ap (λ (d : ℕ). d * generator) (xor-shr a b 15) ∙ digit-times (a / 2 ^ 15) (b / 2 ^ 15) (omega arith) (omega arith))
     ∙ xor-swap (a * 2) (b * 2) (a / 2 ^ 15 * generator) (b / 2 ^ 15 * generator)
 
 -- k turns
@@ -87,7 +87,7 @@ unfolding over
 over-append [] b r = refl
 over-append (x ∷ a) b r = over-append a b (step r x)
 
--- a digit b at the top, and n at its place below
+-- a digit b at the top, and a number n of N digits below it, with j places under it
 place-lt : (n N j : ℕ) → n < 2 ^ N → N + j ≡ 15 → n * 2 ^ j < 2 ^ 15
 place-lt n N j h e = rw e at (shl-lt {a = n} N j h)
 
@@ -100,6 +100,7 @@ in-turn r b x h hb hx =
     ap (bitXor (timesX (bitXor r (b * 2 ^ 15)))) (sym (timesX-low x hx))
     ∙ sym (timesX-xor (bitXor r (b * 2 ^ 15)) x (top-lt r b hb h) (omega arith)) ∙ ap timesX (xor-assoc r (b * 2 ^ 15) x)
 
+-- digits bs, 16 less j of them, are their number at the register's top, and then as many turns
 pub over-top : (bs : List ℕ) (j r : ℕ) → Digits bs → length bs + j ≡ 16 → r < 2 ^ 16 → over bs r ≡ turns (length bs) (bitXor r (number bs * 2 ^ j))
 unfolding over number turns
 over-top [] j r d e h = sym (ap (bitXor r) (zero-mul (2 ^ j)) ∙ xor-zero-r r)
@@ -109,9 +110,10 @@ over-top (b ∷ bs) j r d e h =
     let hx = number-lt bs (d .1) in
     over-top bs (suc j) (step r b) (d .1) (omega arith) (step-lt r b (d .0) h)
     ∙ ap (turns n)
-        (rw (pow-suc 2 j, ← mul-assoc x (2 ^ j) 2) (in-turn r b (x * 2 ^ j) h (d .0) (place-lt x n j hx (omega arith)))
-        ∙ ap (λ (y : ℕ). timesX (bitXor r y)) (at-place b x n j hx (omega arith)))
+    (rw (pow-suc 2 j, ← mul-assoc x (2 ^ j) 2) (in-turn r b (x * 2 ^ j) h (d .0) (place-lt x n j hx (omega arith)))
+    ∙ ap (λ (y : ℕ). timesX (bitXor r y)) (at-place b x n j hx (omega arith)))
 
+-- so is a number of k digits
 pub over-bits : (k j v r : ℕ) → k + j ≡ 16 → v < 2 ^ k → r < 2 ^ 16 → over (bits k v) r ≡ turns k (bitXor r (v * 2 ^ j))
 over-bits k j v r e hv h =
     over-top (bits k v) j r (digits-bits k v) (ap (λ (n : ℕ). n + j) (length-bits k v) ∙ e) h
@@ -120,3 +122,7 @@ over-bits k j v r e hv h =
 pub syndrome-more : (m n : List ℕ) → syndromeOf (m ++ n) ≡ over (bitsOf n) (syndromeOf m)
 unfolding syndromeOf
 syndrome-more m n = ap (λ l. over l preset) (bitsOf-append m n) ∙ over-append (bitsOf m) (bitsOf n) preset
+
+pub syndrome-octet : (m : List ℕ) (o : ℕ) → syndromeOf (m ++ (o ∷ [])) ≡ over (bits 8 o) (syndromeOf m)
+unfolding bitsOf
+syndrome-octet m o = syndrome-more m (o ∷ []) ∙ ap (λ l. over l (syndromeOf m)) (append-nil (bits 8 o))

@@ -40,3 +40,8 @@ S c = modulo (length c) (plus (shifted c) (presetting (length c)))
 unfoldable pub number : List ℕ → ℕ
 number [] = 0
 number (b ∷ bs) = b * 2 ^ length bs + number bs
+
+-- the product: each coefficient of the first times the second, at its place
+unfoldable pub product : List ℕ → List ℕ → List ℕ
+product [] g = []
+product (a ∷ q) g = plus (scale a g) (0 ∷ product q g)

@@ -4,6 +4,7 @@ ghost use Rattle.crc.specs.Register.{timesX, over, bits, syndromeOf};
 
 // The generator's terms below X^16, which fall on the register when a one leaves it.
 const TAPS: u16 = 0x1021;
+
 const PRESET: u16 = 0xFFFF;
 
 // The register times X, modulo the generator.

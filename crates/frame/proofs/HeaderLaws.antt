@@ -7,11 +7,12 @@ use native.Mathlib.Nat.{div-one}
 use native.Mathlib.Omega.{arith}
 use lib.Dec.{eqb}
 use lib.ListN.{getD}
-use Rattle.octets.specs.Numbers.{numberAt}
+use Rattle.octets.specs.Numbers.{numberAt, bitsAt}
 use Rattle.octets.proofs.Laws.{number-two}
 use Rattle.octets.proofs.Fields.{in-first, in-second, in-third}
 use Rattle.frame.specs.declared.header.Header.{Header}
 use Rattle.frame.specs.Header.{headerOf, field, flag, versionOf}
+use Rattle.frame.specs.Opening.{secondaryVersion}
 
 module _ (f : List ℕ) (b : numberAt f 2 2 < 65536) (c : numberAt f 4 2 < 65536) where
   pub version-is : versionOf f ≡ numberAt f 0 2 / 16384 % 4
@@ -52,3 +53,12 @@ module _ (f : List ℕ) (b : numberAt f 2 2 < 65536) (c : numberAt f 4 2 < 65536
           order = third-flag 34 13 refl (omega arith) i;
           segment = in-third f 0 35 2 11 c refl (omega arith) i;
           pointer = (in-third f 0 37 11 0 c refl (omega arith) ∙ ap (λ (x : ℕ). x % 2048) (div-one _)) i }))
+
+-- the octet of the secondary header that says its version and its length
+pub secondary-version-is : (f : List ℕ) → getD f 6 0 < 256 → secondaryVersion f ≡ getD f 6 0 / 64
+unfolding bitsAt numberAt
+secondary-version-is f h = omega arith
+
+pub secondary-length-is : (f : List ℕ) → bitsAt f 6 1 2 6 ≡ getD f 6 0 % 64
+unfolding bitsAt numberAt
+secondary-length-is f = rw div-one (omega arith)

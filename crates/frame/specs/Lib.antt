@@ -1,4 +1,6 @@
+pub mod Answers
 pub mod Counts
 pub mod Header
+pub mod Opening
 pub mod SetUp
 pub mod Table

@@ -14,7 +14,7 @@ abbrev pub row : {R : Type 0} → R → Bool → Row R
 row r b = record { case = r; cause = b }
 
 -- the first cause found gives the answer, else it is accepted
-abbrev pub firstCause : {R A : Type 0} → List (Row R) → (R → A) → A → A
+unfoldable pub firstCause : {R A : Type 0} → List (Row R) → (R → A) → A → A
 firstCause [] refused accepted = accepted
 firstCause (r ∷ rows) refused accepted = pick (r .cause) (refused (r .case)) (firstCause rows refused accepted)
 

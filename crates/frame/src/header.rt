@@ -20,6 +20,13 @@ pub struct Header {
 }
 
 impl Header {
+    pub const SIZE: usize = 6;
+    // The pointer of a frame of idle data only, and of one in which no packet starts.
+    pub const IDLE: usize = 2046;
+    pub const NONE: usize = 2047;
+    // The segment length id of frames that carry whole packets.
+    pub const WHOLE: u8 = 3;
+
     pub fn of(frame: &[u8]) -> Header
         requires { ⌜ 6 ≤ length (now frame) ⌝ }
         ensures { λ r. ⌜ r ≡ headerOf (now (frame .entry)) ⌝ }

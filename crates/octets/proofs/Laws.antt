@@ -1,6 +1,7 @@
 -- Laws of `laid`, of octets stored one by one, and of numbers in octets.
 -- Assumes nothing.
 use mathlib.Core.Path.{_≡_, _∙_, ap}
+use mathlib.Core.Bool.{Bool, true, false}
 use mathlib.Core.List.{List, [], _∷_, _++_}
 use Prim.Native.Nat.{ℕ, _+_, _*_, _/_, _%_, _≤_, _<_}
 use native.Mathlib.Nat.{add-zero, add-assoc, div-one}
@@ -10,6 +11,7 @@ use lib.ListN.{length, getD, set, take, drop, length-append, length-take, length
 use lib.Seq.{paste, paste-suc, sets-eq, take-length}
 use Rattle.octets.specs.Laid.{laid}
 use Rattle.octets.specs.Numbers.{numberAt, octetsOf}
+use Rattle.octets.specs.Pick.{pick}
 
 pub length-laid : (d : List ℕ) (at : ℕ) (s : List ℕ) → at + length s ≤ length d → length (laid d at s) ≡ length d
 unfolding laid
@@ -60,3 +62,8 @@ number-six l at = simp (add-zero, add-assoc) (omega arith)
 -- two octets hold less than 2^16
 pub number-two-lt : (l : List ℕ) (at : ℕ) → getD l at 0 < 256 → getD l (at + 1) 0 < 256 → numberAt l at 2 < 65536
 number-two-lt l at a b = omega (arith, number-two l at)
+
+-- a choice between a number and 0 is at most the number
+pub pick-le : (b : Bool) (n : ℕ) → pick b n 0 ≤ n
+pick-le true n = omega arith
+pick-le false n = omega arith

@@ -1,0 +1,220 @@
+use crate::header::Header;
+use crate::set_up::SetUp;
+ghost use mathlib.Core.Path.{_≡_};
+ghost use mathlib.Core.Bool.{true};
+ghost use Prim.Native.Nat.{_+_, _≤_, _<_};
+ghost use lib.ListN.{length};
+ghost use Rattle.octets.specs.Numbers.{numberAt};
+ghost use Rattle.octets.specs.Pick.{pick};
+ghost use Rattle.frame.specs.Answers.{numberOf};
+ghost use Rattle.frame.specs.Header.{headerOf};
+ghost use Rattle.frame.specs.Opening.{secondarySize, dataSize, wordOf, row6, row7, row9, row11, row12, openOf, openFrom};
+ghost use Rattle.frame.specs.SetUp.{fitsOf};
+
+// Octets of the control word, if flagged, and of the error control field, if set up.
+pub const WORD: usize = 4;
+pub const CHECK: usize = 2;
+
+// Why a frame is not opened.
+pub enum Refusal {
+    SetUpRange,
+    FrameLength,
+    FrameCheck,
+    FrameVersion,
+    OtherSpacecraft,
+    SecondaryHeader,
+    NoData,
+    OrderOrSegment,
+    PointerPlace,
+}
+
+impl Refusal {
+    // The paper's number.
+    pub fn number(self) -> u32
+        ensures { λ r. ⌜ r ≡ numberOf self ⌝ }
+    {
+        match self {
+            Refusal::SetUpRange => 1,
+            Refusal::FrameLength => 5,
+            Refusal::FrameCheck => 6,
+            Refusal::FrameVersion => 7,
+            Refusal::OtherSpacecraft => 8,
+            Refusal::SecondaryHeader => 9,
+            Refusal::NoData => 10,
+            Refusal::OrderOrSegment => 11,
+            Refusal::PointerPlace => 12,
+        }
+    }
+}
+
+// An opened frame: its header values, its control word (0 if not flagged), where its data field starts and how long it is.
+pub struct Frame {
+    pub header: Header,
+    pub word: u32,
+    pub place: usize,
+    pub size: usize,
+}
+
+pub enum Opened {
+    Refused(Refusal),
+    Accepted(Frame),
+}
+
+// Test 6.
+fn damaged(set: SetUp, frame: &[u8]) -> bool
+    ensures { λ r. ⌜ r ≡ row6 set (now (frame .entry)) ⌝ }
+{
+    if set.error_control {
+        crc::syndrome(frame) != 0
+    } else {
+        false
+    }
+}
+
+// Test 7.
+fn other_version(frame: &[u8]) -> bool
+    requires { ⌜ 6 ≤ length (now frame) ⌝ }
+    ensures { λ r. ⌜ r ≡ row7 (now (frame .entry)) ⌝ }
+{
+    octets::number16(frame, 0) / 16384 != 0
+}
+
+// Test 9.
+fn bad_secondary(h: Header, frame: &[u8]) -> bool
+    requires { ⌜ 6 < length (now frame) ⌝ }
+    ensures { λ r. ⌜ r ≡ row9 h (now (frame .entry)) ⌝ }
+{
+    if h.secondary {
+        octets::octet(frame, 6) / 64 != 0
+    } else {
+        false
+    }
+}
+
+// s.
+fn secondary_size(h: Header, frame: &[u8]) -> usize
+    requires { ⌜ 6 < length (now frame) ⌝ }
+    ensures { λ r. ⌜ (r ≡ secondarySize h (now (frame .entry))) × (r ≤ 64) ⌝ }
+{
+    if h.secondary {
+        octets::octet(frame, 6) % 64 + 1
+    } else {
+        0
+    }
+}
+
+fn if_present(present: bool, size: usize) -> usize
+    ensures { λ r. ⌜ r ≡ pick present size 0 ⌝ }
+{
+    if present { size } else { 0 }
+}
+
+// D, and 0 where nothing is left for the data field.
+fn data_size(set: SetUp, h: Header, s: usize) -> usize
+    requires { ⌜ s ≤ 64 ⌝ }
+    ensures { λ r. ⌜ r ≡ dataSize set h s ⌝ }
+{
+    let taken = Header::SIZE + s + if_present(h.flagged, WORD) + if_present(set.error_control, CHECK);
+    if taken < set.length {
+        set.length - taken
+    } else {
+        0
+    }
+}
+
+// Test 11.
+fn bad_order(h: Header) -> bool
+    ensures { λ r. ⌜ r ≡ row11 h ⌝ }
+{
+    if h.synchronisation {
+        return false;
+    }
+    h.order || h.segment != Header::WHOLE
+}
+
+// Test 12.
+fn bad_pointer(h: Header, size: usize) -> bool
+    ensures { λ r. ⌜ r ≡ row12 h size ⌝ }
+{
+    if h.synchronisation {
+        return false;
+    }
+    if h.pointer < size {
+        return false;
+    }
+    if h.pointer == Header::IDLE {
+        return false;
+    }
+    h.pointer != Header::NONE
+}
+
+fn word_at(h: Header, frame: &[u8], end: usize) -> u32
+    requires { ⌜ (h .flagged ≡ true → end + 4 ≤ length (now frame)) ⌝ }
+    ensures { λ r. ⌜ r ≡ wordOf h (now (frame .entry)) end ⌝ }
+{
+    if h.flagged {
+        octets::number32(frame, end)
+    } else {
+        0
+    }
+}
+
+// Tests 10 to 12, and what the frame gives.
+fn open_data(set: SetUp, h: Header, frame: &[u8]) -> Opened
+    requires { ⌜ (fitsOf set ≡ true) × (length (now frame) ≡ set .length) × (h ≡ headerOf (now frame)) ⌝ }
+    ensures { λ r. ⌜ r ≡ openFrom 6 set (now (frame .entry)) ⌝ }
+{
+    let s = secondary_size(h, frame);
+    let size = data_size(set, h, s);
+    if size < 1 {
+        return Opened::Refused(Refusal::NoData);
+    }
+    if bad_order(h) {
+        return Opened::Refused(Refusal::OrderOrSegment);
+    }
+    if bad_pointer(h, size) {
+        return Opened::Refused(Refusal::PointerPlace);
+    }
+    let place = Header::SIZE + s;
+    let word = word_at(h, frame, place + size);
+    Opened::Accepted(Frame {
+        header: h,
+        word,
+        place,
+        size,
+    })
+}
+
+// Tests 7 to 9, and those after them.
+fn open_header(set: SetUp, frame: &[u8]) -> Opened
+    requires { ⌜ (fitsOf set ≡ true) × (length (now frame) ≡ set .length) ⌝ }
+    ensures { λ r. ⌜ r ≡ openFrom 3 set (now (frame .entry)) ⌝ }
+{
+    if other_version(frame) {
+        return Opened::Refused(Refusal::FrameVersion);
+    }
+    let h = Header::of(frame);
+    if h.spacecraft != set.spacecraft {
+        return Opened::Refused(Refusal::OtherSpacecraft);
+    }
+    if bad_secondary(h, frame) {
+        return Opened::Refused(Refusal::SecondaryHeader);
+    }
+    open_data(set, h, frame)
+}
+
+// Opens a frame of this set-up: tests 1 and 5 to 12, the first cause found; else what the frame gives.
+pub fn open(set: SetUp, frame: &[u8]) -> Opened
+    ensures { λ r. ⌜ r ≡ openOf set (now (frame .entry)) ⌝ }
+{
+    if !set.fits() {
+        return Opened::Refused(Refusal::SetUpRange);
+    }
+    if frame.len() != set.length {
+        return Opened::Refused(Refusal::FrameLength);
+    }
+    if damaged(set, frame) {
+        return Opened::Refused(Refusal::FrameCheck);
+    }
+    open_header(set, frame)
+}
