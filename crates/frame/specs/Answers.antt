@@ -4,6 +4,8 @@ use mathlib.Core.List.{List, [], _∷_, _++_}
 use Prim.Native.Nat.{ℕ}
 use lib.ListN.{replicate}
 use Rattle.octets.specs.Pick.{pick}
+use Rattle.frame.specs.declared.closing.Closed.{Closed}
+use Rattle.frame.specs.declared.closing.CloseRefusal.{CloseRefusal}
 use Rattle.frame.specs.declared.header.Header.{Header}
 use Rattle.frame.specs.declared.opening.Frame.{Frame}
 use Rattle.frame.specs.declared.opening.Opened.{Opened}
@@ -23,6 +25,11 @@ numberOf NoData = 10
 numberOf OrderOrSegment = 11
 numberOf PointerPlace = 12
 
+abbrev pub closeNumberOf : CloseRefusal → ℕ
+closeNumberOf CloseRefusal.SetUpRange = 1
+closeNumberOf CloseRefusal.ChannelAbove = 20
+closeNumberOf CloseRefusal.OutputLength = 25
+
 -- a flag as a number
 abbrev pub bit : Bool → ℕ
 bit b = pick b 1 0
@@ -39,3 +46,8 @@ headerValues h =
 unfoldable pub valuesOf : Opened → List ℕ
 valuesOf (Refused r) = numberOf r ∷ replicate 13 0
 valuesOf (Accepted x) = 0 ∷ headerValues (x .header) ++ (x .word ∷ x .place ∷ x .size ∷ [])
+
+-- closing: the number (0: written)
+unfoldable pub closeValueOf : Closed → ℕ
+closeValueOf (Closed.Refused r) = closeNumberOf r
+closeValueOf Closed.Written = 0

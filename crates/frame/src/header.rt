@@ -21,6 +21,8 @@ pub struct Header {
 
 impl Header {
     pub const SIZE: usize = 6;
+    // Virtual channels, 0 to 7.
+    pub const CHANNELS: usize = 8;
     // The pointer of a frame of idle data only, and of one in which no packet starts.
     pub const IDLE: usize = 2046;
     pub const NONE: usize = 2047;

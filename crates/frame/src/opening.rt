@@ -103,7 +103,7 @@ fn secondary_size(h: Header, frame: &[u8]) -> usize
     }
 }
 
-fn if_present(present: bool, size: usize) -> usize
+pub fn if_present(present: bool, size: usize) -> usize
     ensures { λ r. ⌜ r ≡ pick present size 0 ⌝ }
 {
     if present { size } else { 0 }

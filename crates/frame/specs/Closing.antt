@@ -1,0 +1,82 @@
+-- Closing a frame: the frame around a data field that lies in its place (01, "Writing one frame"; "Layouts").
+use mathlib.Core.Bool.{Bool, true, false, not}
+use mathlib.Core.List.{List, [], _∷_, _++_}
+use Prim.Native.Nat.{ℕ, _-_}
+use lib.Dec.{eqb, ltb}
+use lib.ListN.{length, take, drop}
+use Rattle.crc.specs.Register.{syndromeOf}
+use Rattle.octets.specs.Numbers.{octetsOf, part, packed}
+use Rattle.octets.specs.Pick.{pick}
+use Rattle.frame.specs.declared.closing.Closed.{Closed}
+use Rattle.frame.specs.declared.closing.Closed.the-variants.{Refused, Written}
+use Rattle.frame.specs.declared.closing.CloseRefusal.{CloseRefusal}
+use Rattle.frame.specs.declared.closing.CloseRefusal.the-variants.{SetUpRange, ChannelAbove, OutputLength}
+use Rattle.frame.specs.declared.closing.ControlWord.{ControlWord}
+use Rattle.frame.specs.declared.closing.ControlWord.the-variants.{Absent, Present}
+use Rattle.frame.specs.declared.counts.ChannelCount.{ChannelCount}
+use Rattle.frame.specs.declared.counts.MasterCount.{MasterCount}
+use Rattle.frame.specs.declared.set_up.SetUp.{SetUp}
+use Rattle.frame.specs.Answers.{bit}
+use Rattle.frame.specs.Opening.{row1}
+use Rattle.frame.specs.Table.{Row, row, firstCause}
+
+-- "There are eight virtual channels, 0 to 7."
+abbrev pub channels : ℕ
+channels = 8
+
+-- row 20: channel above 7
+unfoldable pub row20 : ℕ → Bool
+row20 channel = not (ltb channel channels)
+
+-- row 25: output not N octets
+unfoldable pub row25 : SetUp → List ℕ → Bool
+row25 u out = not (eqb (length out) (u .length))
+
+-- rows 1, 20 and 25, in the paper's order
+unfoldable pub closeTable : SetUp → ℕ → List ℕ → List (Row CloseRefusal)
+closeTable u channel out = row SetUpRange (row1 u) ∷ row ChannelAbove (row20 channel) ∷ row OutputLength (row25 u out) ∷ []
+
+-- "a control word or none"
+unfoldable pub flaggedBy : ControlWord → Bool
+flaggedBy Absent = false
+flaggedBy (Present w) = true
+
+unfoldable pub wordOctets : ControlWord → List ℕ
+wordOctets Absent = []
+wordOctets (Present w) = octetsOf 4 w
+
+-- the header's fields in the order of "Layouts"; "No secondary header; synchronisation and order flags 0, segment id 11"
+unfoldable pub headerOctets : SetUp → ℕ → MasterCount → ChannelCount → Bool → ℕ → List ℕ
+headerOctets u channel master count flagged pointer =
+    octetsOf 6 (packed 0
+    (part 2 0 ∷ part 10 (u .spacecraft) ∷ part 3 channel ∷ part 1 (bit flagged) ∷ part 8 (master .0) ∷ part 8 (count .0)
+    ∷ part 1 0 ∷ part 1 0 ∷ part 1 0 ∷ part 2 3 ∷ part 11 pointer ∷ []))
+
+-- D, of a frame with no secondary header
+unfoldable pub closeSize : SetUp → ControlWord → ℕ
+closeSize u word = u .length - 6 - length (wordOctets word) - pick (u .«error_control») 2 0
+
+-- error control, if set up: "over all octets before the field"
+unfoldable pub withCheck : SetUp → List ℕ → List ℕ
+withCheck u f = f ++ pick (u .«error_control») (octetsOf 2 (syndromeOf f)) []
+
+-- the output with the check in its place, over all octets before it, if it is set up
+unfoldable pub checkedOutput : SetUp → List ℕ → List ℕ
+checkedOutput u out = pick (u .«error_control») (withCheck u (take (length out - 2) out)) out
+
+-- the whole frame: header, data field, control word, check
+unfoldable pub frameAround : SetUp → ℕ → MasterCount → ChannelCount → ControlWord → ℕ → List ℕ → List ℕ
+frameAround u channel master count word pointer field =
+    withCheck u (headerOctets u channel master count (flaggedBy word) pointer ++ field ++ wordOctets word)
+
+-- the data field is what stands in its place in the output already
+unfoldable pub fieldIn : SetUp → ControlWord → List ℕ → List ℕ
+fieldIn u word out = take (closeSize u word) (drop 6 out)
+
+-- the answer, and what the output holds then: on a refusal what it held
+unfoldable pub closeOf : SetUp → ℕ → List ℕ → Closed
+closeOf u channel out = firstCause (closeTable u channel out) Refused Written
+
+unfoldable pub outputOf : SetUp → ℕ → MasterCount → ChannelCount → ControlWord → ℕ → List ℕ → List ℕ
+outputOf u channel master count word pointer out =
+    firstCause (closeTable u channel out) (λ _. out) (frameAround u channel master count word pointer (fieldIn u word out))
