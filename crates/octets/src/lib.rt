@@ -1,7 +1,7 @@
 // Octets at a place: big-endian numbers read and written, a run copied, a part filled.
 // Each says what it leaves as one equation of lists, so that nobody above looks into a loop.
 ghost use mathlib.Core.Path.{_≡_};
-ghost use Prim.Native.Nat.{_+_, _≤_, _<_};
+ghost use Prim.Native.Nat.{_+_, _≤_, _<_, min};
 ghost use lib.ListN.{length, getD, replicate};
 ghost use Rattle.octets.specs.Numbers.{numberAt, octetsOf};
 ghost use Rattle.octets.specs.Laid.{laid};
@@ -74,4 +74,10 @@ pub fn fill(dst: &mut [u8], at: usize, count: usize, v: u8)
         dst[at + i] = v;
         i += 1;
     }
+}
+
+pub fn least(a: usize, b: usize) -> usize
+    ensures { λ r. ⌜ r ≡ min a b ⌝ }
+{
+    if a < b { a } else { b }
 }

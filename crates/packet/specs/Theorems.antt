@@ -1,0 +1,49 @@
+-- What is proved of a packet's size besides the functions' contracts. The proofs are in proofs/Laws.antt, under these names in lower case.
+use mathlib.Core.Path.{_≡_}
+use mathlib.Core.Bool.{true, false}
+use mathlib.Core.List.{List, [], _++_}
+use Prim.Native.Nat.{ℕ, _≤_, _<_}
+use lib.ListN.{length, getD, take}
+use Rattle.packet.specs.declared.source.Size.{Size}
+use Rattle.packet.specs.declared.source.Size.the-variants.{Wait, Foreign, Total}
+use Rattle.packet.specs.Size.{least, formatMost, versionOf, totalOf, sizeOf}
+
+-- nothing seen yet tells nothing
+abbrev pub Empty-waits : Type 0
+Empty-waits = sizeOf [] ≡ Wait
+
+-- what was told is never changed by more octets
+abbrev pub Foreign-stays : Type 0
+Foreign-stays = (p q : List ℕ) → sizeOf p ≡ Foreign → sizeOf (p ++ q) ≡ Foreign
+
+abbrev pub Total-stays : Type 0
+Total-stays = (p q : List ℕ) (n : ℕ) → sizeOf p ≡ Total n → sizeOf (p ++ q) ≡ Total n
+
+-- a packet's last octet at the latest tells its total
+abbrev pub Last-tells : Type 0
+Last-tells = (p q : List ℕ) (n : ℕ) → sizeOf (p ++ q) ≡ Total n → n ≤ length p → sizeOf p ≡ Total n
+
+-- the first octet at the latest tells a foreign packet
+abbrev pub First-tells : Type 0
+First-tells = (p q : List ℕ) → sizeOf (p ++ q) ≡ Foreign → 1 ≤ length p → sizeOf p ≡ Foreign
+
+-- a total is at least that of the least packet, and at most the format's
+abbrev pub Total-least : Type 0
+Total-least = (p : List ℕ) (n : ℕ) → sizeOf p ≡ Total n → least ≤ n
+
+abbrev pub Total-most : Type 0
+Total-most = (p : List ℕ) (n : ℕ) → getD p 4 0 < 256 → getD p 5 0 < 256 → sizeOf p ≡ Total n → n ≤ formatMost
+
+-- only the first six octets tell
+abbrev pub Six-tell : Type 0
+Six-tell = (p : List ℕ) → sizeOf p ≡ sizeOf (take 6 p)
+
+-- in the paper's words: no octets wait; a first octet of another version is foreign; one to five of version 000 wait; six tell the total
+pub record InWords (p : List ℕ) : Type 0 where
+  pub none : length p ≡ 0 → sizeOf p ≡ Wait
+  pub other : 1 ≤ length p → (versionOf p ≡ 0 → ⊥) → sizeOf p ≡ Foreign
+  pub few : 1 ≤ length p → versionOf p ≡ 0 → length p < 6 → sizeOf p ≡ Wait
+  pub six : 6 ≤ length p → versionOf p ≡ 0 → sizeOf p ≡ Total (totalOf p)
+
+abbrev pub Size-in-words : Type 0
+Size-in-words = (p : List ℕ) → InWords p

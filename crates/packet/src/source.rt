@@ -1,0 +1,82 @@
+ghost use mathlib.Core.Path.{_≡_};
+ghost use mathlib.Core.List.{_++_};
+ghost use Prim.Native.Nat.{_≤_};
+ghost use lib.ListN.{length};
+ghost use Rattle.packet.specs.Size.{fitsOf, formatMost, idleOf, sizeOf, totalOf};
+
+// What the octets seen so far of a packet tell: too few to know, another version, or the total.
+pub enum Size {
+    Wait,
+    Foreign,
+    Total(usize),
+}
+
+// The limits of a source packet, in octets.
+pub struct Packet;
+
+impl Packet {
+    pub const MIN: usize = 7;
+    // The largest that is delivered, and the largest that the format has.
+    pub const MAX: usize = 4096;
+    pub const FORMAT_MAX: usize = 65542;
+    // Octets of its header.
+    pub const HEADER: usize = 6;
+    // The application id of idle packets.
+    pub const IDLE: usize = 2047;
+
+    // A packet of this total is delivered, if it is not idle.
+    pub fn fits(total: usize) -> bool
+        ensures { λ r. ⌜ r ≡ fitsOf total ⌝ }
+    {
+        if total < Packet::MIN {
+            return false;
+        }
+        total <= Packet::MAX
+    }
+
+    pub fn idle(packet: &[u8]) -> bool
+        requires { ⌜ 2 ≤ length (now packet) ⌝ }
+        ensures { λ r. ⌜ r ≡ idleOf (now (packet .entry)) ⌝ }
+    {
+        octets::number16(packet, 0) % 2048 == Packet::IDLE
+    }
+
+    pub fn total(seen: &[u8]) -> usize
+        requires { ⌜ 6 ≤ length (now seen) ⌝ }
+        ensures { λ r. ⌜ (r ≡ totalOf (now (seen .entry))) × (r ≤ formatMost) ⌝ }
+    {
+        octets::number16(seen, 4) + Packet::MIN
+    }
+
+    // What the octets seen so far of a packet tell.
+    pub fn size(seen: &[u8]) -> Size
+        ensures { λ r. ⌜ r ≡ sizeOf (now (seen .entry)) ⌝ }
+    {
+        if seen.len() == 0 {
+            return Size::Wait;
+        }
+        if octets::octet(seen, 0) / 32 != 0 {
+            return Size::Foreign;
+        }
+        if seen.len() < Packet::HEADER {
+            return Size::Wait;
+        }
+        Size::Total(Packet::total(seen))
+    }
+
+    // The same of octets that lie in two places: those held, and those that follow.
+    pub fn size_across(held: &[u8], more: &[u8]) -> Size
+        ensures { λ r. ⌜ r ≡ sizeOf (now (held .entry) ++ now (more .entry)) ⌝ }
+    {
+        if Packet::HEADER <= held.len() {
+            return Packet::size(held);
+        }
+        let mut head = [0u8; 6];
+        let k = held.len();
+        octets::copy(&mut head, 0, held);
+        let wanted = Packet::HEADER - k;
+        let there = octets::least(more.len(), wanted);
+        octets::copy(&mut head, k, &more[..there]);
+        Packet::size(&head[..k + there])
+    }
+}
