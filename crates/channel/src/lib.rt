@@ -1,0 +1,9 @@
+// The record of the eight channels: their states, the rules of a record, the store's parts, the busy mask.
+mod busy;
+mod rules;
+mod state;
+mod store;
+
+pub use rules::follows;
+pub use state::{Channel, Record, State};
+pub use store::{Output, Store};
