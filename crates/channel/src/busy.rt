@@ -4,7 +4,7 @@ ghost use Prim.Native.Nat.{_+_, _*_, _<_};
 ghost use Rattle.octets.specs.Pick.{pick};
 ghost use Rattle.channel.specs.Busy.{busyState, maskOf, countOf, lowestOf};
 
-fn busy_state(state: State) -> bool
+pub fn busy_state(state: State) -> bool
     ensures { λ r. ⌜ r ≡ busyState state ⌝ }
 {
     match state {

@@ -4,6 +4,7 @@ mod rules;
 mod state;
 mod store;
 
+pub use busy::busy_state;
 pub use rules::follows;
 pub use state::{Channel, Record, State};
 pub use store::{Output, Store};

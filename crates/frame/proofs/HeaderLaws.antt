@@ -62,3 +62,8 @@ secondary-version-is f h = omega arith
 pub secondary-length-is : (f : List ℕ) → bitsAt f 6 1 2 6 ≡ getD f 6 0 % 64
 unfolding bitsAt numberAt
 secondary-length-is f = rw div-one (omega arith)
+
+-- a channel has three bits
+pub channel-lt : (f : List ℕ) → headerOf f .channel < 8
+unfolding headerOf bitsAt
+channel-lt f = omega arith

@@ -1,4 +1,9 @@
+pub mod ClosedOpens
+pub mod ClosingLaws
+pub mod ClosingSteps
 pub mod HeaderLaws
+pub mod Laws
+pub mod NumberLaws
 pub mod OpeningSteps
 pub mod RowLaws
 pub mod SetUpLaws

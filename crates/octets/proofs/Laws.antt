@@ -1,14 +1,14 @@
 -- Laws of `laid`, of octets stored one by one, and of numbers in octets.
 -- Assumes nothing.
-use mathlib.Core.Path.{_≡_, _∙_, ap}
+use mathlib.Core.Path.{_≡_, _∙_, sym, ap}
 use mathlib.Core.Bool.{Bool, true, false}
 use mathlib.Core.List.{List, [], _∷_, _++_}
-use Prim.Native.Nat.{ℕ, _+_, _*_, _/_, _%_, _≤_, _<_}
+use Prim.Native.Nat.{ℕ, _+_, _-_, _*_, _/_, _%_, _≤_, _<_}
 use native.Mathlib.Nat.{add-zero, add-assoc, div-one}
 use native.Mathlib.Numerals.{add-one, add-two, add-three}
 use native.Mathlib.Omega.{arith}
-use lib.ListN.{length, getD, set, take, drop, length-append, length-take, length-drop}
-use lib.Seq.{paste, paste-suc, sets-eq, take-length}
+use lib.ListN.{length, getD, set, take, drop, length-append, length-take, length-drop, List·getD-append}
+use lib.Seq.{paste, paste-suc, sets-eq, take-length, getD-append-add}
 use Rattle.octets.specs.Laid.{laid}
 use Rattle.octets.specs.Numbers.{numberAt, octetsOf}
 use Rattle.octets.specs.Pick.{pick}
@@ -67,3 +67,12 @@ number-two-lt l at a b = omega (arith, number-two l at)
 pub pick-le : (b : Bool) (n : ℕ) → pick b n 0 ≤ n
 pick-le true n = omega arith
 pick-le false n = omega arith
+
+-- an octet of two runs lies in the first, or in the second
+pub in-first-run : (a b : List ℕ) (at : ℕ) → at < length a → getD a at 0 ≡ getD (a ++ b) at 0
+in-first-run a b at h = sym (List·getD-append a b 0 at h)
+
+pub in-second-run : (a b : List ℕ) (at : ℕ) → length a ≤ at → getD b (at - length a) 0 ≡ getD (a ++ b) at 0
+in-second-run a b at h =
+    let e : length a + (at - length a) ≡ at = omega arith in
+    sym (getD-append-add a b (at - length a) 0) ∙ ap (λ (n : ℕ). getD (a ++ b) n 0) e

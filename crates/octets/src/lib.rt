@@ -1,6 +1,7 @@
 // Octets at a place: big-endian numbers read and written, a run copied, a part filled.
 // Each says what it leaves as one equation of lists, so that nobody above looks into a loop.
 ghost use mathlib.Core.Path.{_≡_};
+ghost use mathlib.Core.List.{_++_};
 ghost use Prim.Native.Nat.{_+_, _≤_, _<_, min};
 ghost use lib.ListN.{length, getD, replicate};
 ghost use Rattle.octets.specs.Numbers.{numberAt, octetsOf};
@@ -11,6 +12,18 @@ pub fn octet(s: &[u8], at: usize) -> usize
     ensures { λ r. ⌜ (r ≡ getD (now (s .entry)) at 0) × (r < 256) ⌝ }
 {
     s[at] as usize
+}
+
+// An octet of two runs that follow one another.
+pub fn octet_across(a: &[u8], b: &[u8], at: usize) -> usize
+    requires { ⌜ at < length (now a) + length (now b) ⌝ }
+    ensures { λ r. ⌜ (r ≡ getD (now (a .entry) ++ now (b .entry)) at 0) × (r < 256) ⌝ }
+{
+    if at < a.len() {
+        octet(a, at)
+    } else {
+        octet(b, at - a.len())
+    }
 }
 
 pub fn number16(s: &[u8], at: usize) -> usize

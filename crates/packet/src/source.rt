@@ -1,6 +1,6 @@
 ghost use mathlib.Core.Path.{_≡_};
 ghost use mathlib.Core.List.{_++_};
-ghost use Prim.Native.Nat.{_≤_};
+ghost use Prim.Native.Nat.{_+_, _≤_};
 ghost use lib.ListN.{length};
 ghost use Rattle.packet.specs.Size.{fitsOf, formatMost, idleOf, sizeOf, totalOf};
 
@@ -39,6 +39,16 @@ impl Packet {
         ensures { λ r. ⌜ r ≡ idleOf (now (packet .entry)) ⌝ }
     {
         octets::number16(packet, 0) % 2048 == Packet::IDLE
+    }
+
+    // The same of octets that lie in two places: those held, and those that follow.
+    pub fn idle_across(held: &[u8], more: &[u8]) -> bool
+        requires { ⌜ 2 ≤ length (now held) + length (now more) ⌝ }
+        ensures { λ r. ⌜ r ≡ idleOf (now (held .entry) ++ now (more .entry)) ⌝ }
+    {
+        let first = octets::octet_across(held, more, 0);
+        let second = octets::octet_across(held, more, 1);
+        (first * 256 + second) % 2048 == Packet::IDLE
     }
 
     pub fn total(seen: &[u8]) -> usize

@@ -20,7 +20,7 @@ use Rattle.reader.specs.declared.walking.End.{End}
 use Rattle.reader.specs.declared.walking.Seen.{Seen}
 use Rattle.reader.specs.declared.walking.Seen.the-variants.{Stop, Whole}
 use Rattle.reader.specs.declared.walking.Tally.{Tally}
-use Rattle.reader.proofs.Laid.{laid-none, laid-next}
+use Rattle.octets.proofs.Runs.{laid-nil, laid-behind}
 use Rattle.reader.specs.Walk.{front, seenOf, Walked, cutOf, turn, turns, walkOf, handed, handedAll, oneIdle, oneDelivered, tallied, talliedAll, finished}
 
 -- a whole packet at the front: its total, within the limit, is there
@@ -170,7 +170,7 @@ unfolding handedAll
 output-more limit t d out n s h =
     let l : t .filled + length (handed (take n d)) ≤ length out = omega (arith, handed-fits (take n d), length-take n d) in
     rw (filled-more, walk-whole limit d n s)
-    (laid-next out (handed (take n d)) (handedAll (walkOf limit (drop n d) .whole)) (t .filled) l)
+    (laid-behind out (t .filled) (t .filled + length (handed (take n d))) (handed (take n d)) (handedAll (walkOf limit (drop n d) .whole)) l refl)
 
 pub finished-stop : (limit : ℕ) (t : Tally) (d : List ℕ) (e : End) → seenOf limit d ≡ Stop e
     → record { tally = t; end = e } ≡ finished t (walkOf limit d)
@@ -180,7 +180,7 @@ finished-stop limit t d e s = rw (walk-stop limit d e s)
 pub output-stop : (limit : ℕ) (d out : List ℕ) (e : End) (at : ℕ) → seenOf limit d ≡ Stop e
     → out ≡ laid out at (handedAll (walkOf limit d .whole))
 unfolding handedAll
-output-stop limit d out e at s = rw (walk-stop limit d e s) (sym (laid-none out at))
+output-stop limit d out e at s = rw (walk-stop limit d e s) (sym (laid-nil out at))
 
 -- a whole packet that is idle, and one that is not
 pub idle-tally : (t : Tally) (p : List ℕ) → idleOf p ≡ true → oneIdle t ≡ tallied t p
@@ -189,7 +189,7 @@ idle-tally t p e = rw e
 
 pub idle-output : (out p : List ℕ) (at : ℕ) → idleOf p ≡ true → out ≡ laid out at (handed p)
 unfolding handed
-idle-output out p at e = rw e (sym (laid-none out at))
+idle-output out p at e = rw e (sym (laid-nil out at))
 
 pub delivered-tally : (t : Tally) (p : List ℕ) → idleOf p ≡ false → oneDelivered t (length p) ≡ tallied t p
 unfolding tallied

@@ -1,1 +1,5 @@
+pub mod Answers
+pub mod Reading
+pub mod Steps
+pub mod Theorems
 pub mod Walk

@@ -63,6 +63,10 @@ unfoldable pub handedAll : List (List ℕ) → List ℕ
 handedAll [] = []
 handedAll (p ∷ ps) = handed p ++ handedAll ps
 
+-- no packet yet
+abbrev pub noTally : Tally
+noTally = record { delivered = 0; idle = 0; filled = 0 }
+
 -- the counts after one more idle packet, and after a delivered one of n octets
 abbrev pub oneIdle : Tally → Tally
 oneIdle t = record { delivered = t .delivered; idle = t .idle + 1; filled = t .filled }

@@ -1,71 +1,76 @@
+-- `frame::close` meets its contract: rows 1, 20 and 25; header, word and check around the data field.
+-- Assumes nothing.
+use mathlib.Core.Path.{_≡_, _∙_, sym}
+use mathlib.Core.Bool.{true}
+use Prim.Native.Nat.{_<_}
+use native.Mathlib.Omega.{arith}
+use lib.ListN.{length}
+use borrow.Author.Tests.{not-true, not-false}
+use Rattle.frame.specs.declared.closing.CloseRefusal.the-variants.{SetUpRange, ChannelAbove, OutputLength}
+use Rattle.frame.specs.SetUp.{fitsOf}
+use Rattle.frame.proofs.ClosingLaws.{frame-written, sizes}
+use Rattle.frame.proofs.ClosingSteps.{outside, above, other-length, passed, refused, written}
+use Rattle.frame.proofs.SetUpLaws.{in-range}
 use borrow.Author.Needs.{needs}
 use Rattle.frame.proofs.closing.close.Statement.{statement}
 use Rattle.frame.proofs.closing.close.Tie as tie
-use Rattle.frame.proofs.closing.close.Reads as reads
-use Rattle.frame.proofs.closing.close.Lts as lts
-use Rattle.frame.proofs.closing.ControlWord.flagged.Reads as flagged-reads
-use Rattle.frame.proofs.closing.ControlWord.size.Reads as size-reads
-use Rattle.frame.proofs.closing.ControlWord.write.Reads as write-reads
-use Rattle.frame.proofs.closing.write_check.Reads as write-check-reads
-use Rattle.frame.proofs.closing.write_header.Reads as write-header-reads
-use Rattle.frame.proofs.opening.if_present.Reads as if-present-reads
-use Rattle.frame.proofs.set_up.SetUp.fits.Reads as fits-reads
 
--- src/closing.rt:130:9
 fits-requires : tie.Need-fits-requires
 fits-requires c κs = search needs
 
--- src/closing.rt:131:9
 returns : tie.Need-returns
-returns c = ?
+returns c = refused _ _ _ _ _ _ _ SetUpRange (outside _ _ _ (sym (c .before .fits2 .ensures) ∙ not-true _ (c .if1 .taken)))
 
--- src/closing.rt:134:9
 returns-2 : tie.Need-returns-2
-returns-2 c = ?
+returns-2 c = refused _ _ _ _ _ _ _ ChannelAbove (above _ _ _ (sym (c .before .before .fits2 .ensures) ∙ not-false _ (c .before .if1 .left)) (c .if2 .taken))
 
--- src/closing.rt:137:9
 returns-3 : tie.Need-returns-3
-returns-3 c = ?
+returns-3 c = refused _ _ _ _ _ _ _ OutputLength
+    (other-length _ _ _ (sym (c .before .before .before .before .fits2 .ensures) ∙ not-false _ (c .before .before .before .if1 .left)) (c .before .before .if2 .left) (c .if3 .taken))
 
--- src/closing.rt:139:47
+-- what the three tests leave
+tested : (c : tie.Else3) → let a = c .before .before .before .before .before .before .args in (fitsOf (a .set) ≡ true) × (a .channel < 8) × (length (a .output .now) ≡ a .set .length)
+tested c = (sym (c .before .before .before .before .fits2 .ensures) ∙ not-false _ (c .before .before .before .if1 .left), c .before .before .if2 .left, c .if3 .left)
+
 flagged-requires : tie.Need-flagged-requires
 flagged-requires c κs = search needs
 
--- src/closing.rt:139:5
 write-header-requires : tie.Need-write-header-requires
-write-header-requires c κs = ?
+write-header-requires c κs = let t = tested (c .before .before) in (t .0, t .1, omega (arith, in-range _ (t .0)))
 
--- src/closing.rt:140:17
 size-requires : tie.Need-size-requires
 size-requires c κs = search needs
 
--- src/closing.rt:140:31
 if-present-requires : tie.Need-if-present-requires
 if-present-requires c κs = search needs
 
--- src/closing.rt:140:17
 add-taken : tie.Need-add-taken
-add-taken c = ?
+add-taken c = let t = tested (c .before .before .before .before .before .before .before) in
+    omega (arith, sizes _ (c .before .before .before .before .before .before .before .before .before .before .before .before .before .args .word) (t .0), in-range _ (t .0))
 
--- src/closing.rt:141:24
 sub-write : tie.Need-sub-write
-sub-write c = ?
+sub-write c = let t = tested (c .before .before .before .before .before .before .before .before .before) in
+    omega (arith, sizes _ (c .before .before .before .before .before .before .before .before .before .before .before .before .before .before .before .args .word) (t .0))
 
--- src/closing.rt:141:5
 write-requires : tie.Need-write-requires
-write-requires c κs = ?
+write-requires c κs = let t = tested (c .before .before .before .before .before .before .before .before .before) in
+    omega (arith, sizes _ (c .before .before .before .before .before .before .before .before .before .before .before .before .before .before .before .args .word) (t .0), c .before .before .before .before .before .before .write-header .kept)
 
--- src/closing.rt:142:5
 write-check-requires : tie.Need-write-check-requires
-write-check-requires c κs = ?
+write-check-requires c κs = let t = tested (c .before .before .before .before .before .before .before .before .before .before .before .before .before) in
+    omega (arith, in-range _ (t .0), c .before .before .before .before .before .before .before .before .before .before .write-header .kept, c .before .before .before .write .kept)
 
--- src/closing.rt:118:1
 same-length : tie.Need-same-length
 same-length c = search needs
 
--- src/closing.rt:118:1
 returns-4 : tie.Need-returns-4
-returns-4 c = ?
+returns-4 c = let t = tested (c .before .before .before .before .before .before .before .before .before .before .before .before .before .before .before .before) in
+    let a = c .before .before .before .before .before .before .before .before .before .before .before .before .before .before .before .before .before .before .before .before .before .before .args in
+    let f = frame-written (a .set) (a .channel) (a .master) (a .count) (a .word) (a .pointer) (a .output .now) _ _ _ _ (t .0) (t .2)
+    (omega (arith, sizes _ (a .word) (t .0)))
+    (rw (c .before .before .before .before .before .before .before .before .before .before .before .before .before .before .before .flagged .ensures) at (c .before .before .before .before .before .before .before .before .before .before .before .before .before .write-header .ensures)) (c .before .before .before .before .before .before .write .ensures) (c .before .before .write-check .ensures) in
+    let r = written _ _ _ _ _ _ _ (passed _ _ _ (t .0) (t .1) (t .2)) in
+    (r .0, f ∙ r .1)
 
 pub close-spec : {M : Type 1} → statement M
 close-spec =

@@ -1,46 +1,39 @@
+-- `frame::write_check` meets its contract: the check over all octets before it, in the last two.
+-- Assumes nothing.
+use mathlib.Core.Path.{_∙_, sym}
+use native.Mathlib.Omega.{arith}
+use lib.Seq.{length-take-le}
+use Rattle.frame.proofs.ClosingLaws.{check-laid, check-none}
 use borrow.Author.Needs.{needs}
 use Rattle.frame.proofs.closing.write_check.Statement.{statement}
 use Rattle.frame.proofs.closing.write_check.Tie as tie
-use Rattle.frame.proofs.closing.write_check.Reads as reads
-use Rattle.frame.proofs.closing.write_check.Lts as lts
-use Rattle.crc.proofs.syndrome.Reads as syndrome-reads
-use Rattle.octets.proofs.put16.Reads as put16-reads
 
--- src/closing.rt:111:18
 sub-at : tie.Need-sub-at
 sub-at c = search needs
 
--- src/closing.rt:112:35
 slice-reshare-prefix-syndrome : tie.Need-slice-reshare-prefix-syndrome
 slice-reshare-prefix-syndrome c = search needs
 
--- src/closing.rt:112:35
 slice-aggregate-syndrome : tie.Need-slice-aggregate-syndrome
-slice-aggregate-syndrome c = ?
+slice-aggregate-syndrome c = sym (length-take-le _ _ (omega arith))
 
--- src/closing.rt:112:13
 syndrome-requires : tie.Need-syndrome-requires
 syndrome-requires c κs = search needs
 
--- src/closing.rt:113:35
 cast-put16 : tie.Need-cast-put16
 cast-put16 c = search needs
 
--- src/closing.rt:113:9
 put16-requires : tie.Need-put16-requires
 put16-requires c κs = search needs
 
--- src/closing.rt:106:1
 same-length : tie.Need-same-length
 same-length c = search needs
 
--- src/closing.rt:106:1
 returns : tie.Need-returns
-returns c = ?
+returns c = rw (c .before .before .before .before .syndrome .ensures) at (c .before .before .put16 .ensures) ∙ check-laid _ _ (c .before .before .before .before .before .before .if1 .taken) (c .before .before .before .before .before .before .before .before .pre)
 
--- src/closing.rt:106:1
 returns-2 : tie.Need-returns-2
-returns-2 c = ?
+returns-2 c = check-none _ _ (c .if1 .left)
 
 pub write-check-spec : {M : Type 1} → statement M
 write-check-spec =

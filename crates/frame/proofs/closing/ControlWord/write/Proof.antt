@@ -1,32 +1,33 @@
+-- `frame::ControlWord::write` meets its contract.
+-- Assumes nothing.
+use mathlib.Core.Path.{sym}
 use borrow.Author.Needs.{needs}
+use Rattle.octets.specs.Numbers.{octetsOf}
+use Rattle.octets.proofs.Runs.{laid-nil}
+use Rattle.frame.specs.Closing.{wordOctets}
 use Rattle.frame.proofs.closing.ControlWord.write.Statement.{statement}
 use Rattle.frame.proofs.closing.ControlWord.write.Tie as tie
-use Rattle.frame.proofs.closing.ControlWord.write.Reads as reads
-use Rattle.frame.proofs.closing.ControlWord.write.Lts as lts
-use Rattle.octets.proofs.put32.Reads as put32-reads
 
 enum-told : tie.Need-enum-told
 enum-told c = search needs
 
--- src/closing.rt:49:34
 enum-known-self : tie.Need-enum-known-self
 enum-known-self c = search needs
 
--- src/closing.rt:50:17
 put32-requires : tie.Need-put32-requires
-put32-requires c κs = ?
+unfolding wordOctets octetsOf
+put32-requires c κs = rw (c .before .before .self .given .1) at (c .before .before .before .before .before .pre)
 
--- src/closing.rt:43:5
 returns : tie.Need-returns
-returns c = ?
+unfolding wordOctets
+returns c = rw (c .enum-told .given .1) (sym (laid-nil _ _))
 
--- src/closing.rt:43:5
 same-length : tie.Need-same-length
 same-length c = search needs
 
--- src/closing.rt:43:5
 returns-2 : tie.Need-returns-2
-returns-2 c = ?
+unfolding wordOctets
+returns-2 c = rw (c .before .before .before .before .before .self .given .1) (c .before .before .put32 .ensures)
 
 pub write-spec : {M : Type 1} → statement M
 write-spec =

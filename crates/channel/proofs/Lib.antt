@@ -1,0 +1,6 @@
+pub mod Laws
+pub mod ListLaws
+pub mod MaskLaws
+pub mod PartLaws
+pub mod RuleLaws
+pub mod WordLaws

@@ -1,0 +1,104 @@
+-- What decides whether a state keeps the rules, variant by variant and test by test, and a record, channel by channel.
+-- Assumes nothing.
+use mathlib.Core.Path.{_≡_, refl}
+use mathlib.Core.Bool.{Bool, true, false, _&&_, false≢true}
+use mathlib.Core.List.{List, [], _∷_}
+use mathlib.Core.Logic.{_↔_}
+use Prim.Native.Nat.{ℕ, zero, suc, _+_, _-_, _≤_, _<_}
+use native.Mathlib.Nat.{add-zero, add-suc, suc-add, zero-add}
+use native.Mathlib.Numerals.{add-one}
+use native.Mathlib.Omega.{arith}
+use lib.Dec.{leb}
+use lib.ListN.{length, getD, take, drop, drop-of-length-le}
+use lib.Seq.{drop-cons}
+use borrow.Author.Tests.{lt-ltb, le-ltb, le-leb, lt-leb}
+use Rattle.packet.specs.Size.{sizeOf}
+use Rattle.packet.specs.declared.source.Size.{Size}
+use Rattle.packet.specs.declared.source.Size.the-variants.{Total}
+use Rattle.channel.specs.declared.state.Channel.{Channel}
+use Rattle.channel.specs.declared.state.State.{State}
+use Rattle.channel.specs.declared.state.State.the-variants.{Gathering, Skipping}
+use Rattle.channel.specs.Rules.{judged, stateFollows, hunts, channelFollows, allFollow, recordFollows}
+use Rattle.channel.specs.State.{freshChannel}
+use Rattle.channel.specs.Store.{placeOf, partOf}
+use Rattle.channel.specs.Theorems.{Each-follows, Fresh-follows}
+use Rattle.channel.proofs.PartLaws.{cut-part}
+
+-- two tests
+pub both : (a b : Bool) → (a && b) ≡ true → (a ≡ true) × (b ≡ true)
+both true b e = (refl, e)
+both false b e = absurd (false≢true e)
+
+pub and : {a b : Bool} → a ≡ true → b ≡ true → (a && b) ≡ true
+and p q = rw (p, q)
+
+-- a total above k is judged by the limit alone, and any other is refused
+module _ (limit k n : ℕ) {s : Size} (e : s ≡ Total n) where
+  pub total-above : k < n → leb n limit ≡ judged limit k s
+  unfolding judged
+  total-above h = rw (e, lt-ltb k n h)
+
+  pub total-not-above : n ≤ k → false ≡ judged limit k s
+  unfolding judged
+  total-not-above h = rw (e, le-ltb k n h)
+
+module _ (limit : ℕ) (part : List ℕ) {s : State} where
+  -- fewer octets than the limit are judged by the size that they tell
+  pub gathers-below : (k : ℕ) → s ≡ Gathering k → k < limit → judged limit k (sizeOf (take k part)) ≡ stateFollows limit part s
+  unfolding stateFollows
+  gathers-below k e h = rw (e, lt-ltb k limit h)
+
+  pub gathers-above : (k : ℕ) → s ≡ Gathering k → limit ≤ k → false ≡ stateFollows limit part s
+  unfolding stateFollows
+  gathers-above k e h = rw (e, le-ltb k limit h)
+
+  -- 1 octet or more to skip, up to the format's most
+  pub skips-none : (r : ℕ) → s ≡ Skipping r → r < 1 → false ≡ stateFollows limit part s
+  unfolding stateFollows
+  skips-none r e h = rw (e, lt-leb 1 r h)
+
+  pub skips-some : (r : ℕ) → s ≡ Skipping r → 1 ≤ r → leb r 65536 ≡ stateFollows limit part s
+  unfolding stateFollows
+  skips-some r e h = rw (e, le-leb 1 r h)
+
+-- the channels one by one: none is left, or one more, by what the code cuts out of the store for it
+module _ (limit : ℕ) (store : List ℕ) (cs : List Channel) (v : ℕ) where
+  pub follow-end : length cs ≤ v → allFollow limit store v (drop v cs) ≡ true
+  unfolding allFollow
+  follow-end h = rw (drop-of-length-le cs h)
+
+  module _ (at : ℕ) (d : Channel) (b : Bool) (h : v < length cs) (e : at ≡ placeOf limit v)
+      (f : b ≡ channelFollows limit (take (at + limit - at) (drop at store)) (getD cs v d)) where
+    pub follow-next : b ≡ true → allFollow limit store v (drop v cs) ≡ allFollow limit store (v + 1) (drop (v + 1) cs)
+    unfolding allFollow
+    follow-next t = rw (add-one v, drop-cons cs v d h, ← cut-part limit v at store e, ← f, t)
+
+    pub follow-stop : b ≡ false → allFollow limit store v (drop v cs) ≡ false
+    unfolding allFollow
+    follow-stop t = rw (drop-cons cs v d h, ← cut-part limit v at store e, ← f, t)
+
+pub fresh-follows : Fresh-follows
+unfolding recordFollows allFollow channelFollows hunts
+fresh-follows limit store = refl
+
+-- from channel number w on: all follow exactly when each does
+each-from : (limit : ℕ) (store : List ℕ) (w : ℕ) (cs : List Channel)
+    → allFollow limit store w cs ≡ true
+      ↔ ((v : ℕ) → v < length cs → channelFollows limit (partOf limit (w + v) store) (getD cs v freshChannel) ≡ true)
+unfolding allFollow
+each-from limit store w [] = (λ e v h. absurd (omega arith), λ f. refl)
+each-from limit store w (c ∷ cs) =
+    let rest = each-from limit store (suc w) cs in (
+      λ e. let t = both _ _ e in elim [
+        zero ↦ λ h. rw add-zero (t .0)
+      | suc v ↦ λ h. rw (add-suc w v, ← suc-add w v) (rest .0 (t .1) v (omega arith)) ],
+      λ f. and (rw add-zero at (f 0 (omega arith))) (rest .1 (λ v h. rw (suc-add w v, ← add-suc w v) (f (suc v) (omega arith)))),
+    )
+
+pub each-follows : Each-follows
+unfolding recordFollows
+each-follows limit store rec =
+    let each = each-from limit store 0 (rec .channels) in (
+      λ e v h. rw zero-add at (each .0 e v h),
+      λ f. each .1 (λ v h. rw zero-add (f v h)),
+    )

@@ -1,0 +1,112 @@
+-- What closing writes: the header as three numbers of 16 bits, the check behind a run, and the frame around a data field.
+-- Assumes nothing.
+use mathlib.Core.Path.{_≡_, refl, _∙_, sym, ap}
+use mathlib.Core.Bool.{Bool, true, false}
+use mathlib.Core.List.{List, [], _∷_, _++_}
+use Prim.Native.Nat.{ℕ, _+_, _-_, _*_, _%_, _≤_, _<_}
+use native.Mathlib.Nat.{mod-eq-of-lt}
+use native.Mathlib.Omega.{arith}
+use lib.ListN.{length, take, drop, length-append, length-drop}
+use lib.Seq.{take-at}
+use Rattle.crc.specs.Register.{syndromeOf}
+use Rattle.octets.specs.Laid.{laid}
+use Rattle.octets.specs.Numbers.{octetsOf, part, packed}
+use Rattle.octets.specs.Pick.{pick}
+use Rattle.octets.proofs.Laws.{pick-le}
+use Rattle.octets.proofs.Runs.{laid-behind, laid-around, laid-last, length-octets, octets-append}
+use Rattle.frame.specs.declared.closing.ControlWord.{ControlWord}
+use Rattle.frame.specs.declared.closing.ControlWord.the-variants.{Absent, Present}
+use Rattle.frame.specs.declared.counts.ChannelCount.{ChannelCount}
+use Rattle.frame.specs.declared.counts.MasterCount.{MasterCount}
+use Rattle.frame.specs.declared.set_up.SetUp.{SetUp}
+use Rattle.frame.specs.Answers.{bit}
+use Rattle.frame.specs.Closing.{flaggedBy, wordOctets, headerOctets, closeSize, fieldIn, withCheck, checkedOutput, frameAround}
+use Rattle.frame.specs.SetUp.{fitsOf}
+use Rattle.frame.proofs.SetUpLaws.{in-range}
+
+pub bit-lt : (b : Bool) → bit b < 2
+bit-lt true = omega arith
+bit-lt false = omega arith
+
+-- the fields packed are three numbers of 16 bits
+packed-three : (s c f m k p : ℕ) → s < 1024 → c < 8 → f < 2 → m < 256 → k < 256
+    → packed 0
+    (part 2 0 ∷ part 10 s ∷ part 3 c ∷ part 1 f ∷ part 8 m ∷ part 8 k ∷ part 1 0 ∷ part 1 0 ∷ part 1 0 ∷ part 2 3 ∷ part 11 p ∷ [])
+    ≡ ((s * 16 + c * 2 + f) * 65536 + (m * 256 + k)) * 65536 + (6144 + p % 2048)
+unfolding packed
+packed-three s c f m k p hs hc hf hm hk = rw (mod-eq-of-lt hs, mod-eq-of-lt hc, mod-eq-of-lt hf, mod-eq-of-lt hm, mod-eq-of-lt hk) (omega arith)
+
+module _ (u : SetUp) (channel : ℕ) (m : MasterCount) (k : ChannelCount) (b : Bool) (p : ℕ) where
+  pub header-three : u .spacecraft < 1024 → channel < 8 → m .0 < 256 → k .0 < 256
+      → headerOctets u channel m k b p
+      ≡ octetsOf 2 (u .spacecraft * 16 + channel * 2 + bit b) ++ octetsOf 2 (m .0 * 256 + k .0) ++ octetsOf 2 (6144 + p % 2048)
+  unfolding headerOctets
+  header-three hs hc hm hk =
+      let a = u .spacecraft * 16 + channel * 2 + bit b in
+      let o = m .0 * 256 + k .0 in
+      let z = 6144 + p % 2048 in
+      ap (octetsOf 6) (packed-three (u .spacecraft) channel (bit b) (m .0) (k .0) p hs hc (bit-lt b) hm hk)
+      ∙ sym (octets-append 4 2 (a * 65536 + o) z (omega arith))
+      ∙ ap (λ (l : List ℕ). l ++ octetsOf 2 z) (sym (octets-append 2 2 a o (omega arith)))
+
+  pub length-header : length (headerOctets u channel m k b p) ≡ 6
+  unfolding headerOctets
+  length-header = length-octets 6 _
+
+-- three numbers written one behind the other from the start
+pub three-laid : (d d₁ d₂ d₃ : List ℕ) (a o z : ℕ) → 6 ≤ length d → d₁ ≡ laid d 0 (octetsOf 2 a) → d₂ ≡ laid d₁ 2 (octetsOf 2 o)
+    → d₃ ≡ laid d₂ 4 (octetsOf 2 z) → d₃ ≡ laid d 0 (octetsOf 2 a ++ octetsOf 2 o ++ octetsOf 2 z)
+three-laid d d₁ d₂ d₃ a o z h e₁ e₂ e₃ =
+    let la = length-octets 2 a in
+    let lo = length-octets 2 o in
+    let both : length (octetsOf 2 a ++ octetsOf 2 o) ≡ 4 = simp length-append (omega arith) in
+    e₃
+    ∙ ap (λ (l : List ℕ). laid l 4 (octetsOf 2 z)) (rw (e₂, e₁) (laid-behind d 0 2 (octetsOf 2 a) (octetsOf 2 o) (omega arith) (omega arith)))
+    ∙ laid-behind d 0 4 (octetsOf 2 a ++ octetsOf 2 o) (octetsOf 2 z) (omega arith) (omega arith)
+
+-- the check in the last two octets, or none
+pub check-laid : (u : SetUp) (out : List ℕ) → u .«error_control» ≡ true → 2 ≤ length out
+    → laid out (length out - 2) (octetsOf 2 (syndromeOf (take (length out - 2) out))) ≡ checkedOutput u out
+unfolding checkedOutput withCheck
+check-laid u out e h = rw e (laid-last out (octetsOf 2 (syndromeOf (take (length out - 2) out))) (length out - 2) (omega (arith, length-octets 2 (syndromeOf (take (length out - 2) out)))))
+
+pub check-none : (u : SetUp) (out : List ℕ) → u .«error_control» ≡ false → out ≡ checkedOutput u out
+unfolding checkedOutput
+check-none u out e = rw e
+
+-- the check behind a run f, in the place of t
+checked-behind : (u : SetUp) (f t : List ℕ) (b : Bool) → u .«error_control» ≡ b → length t ≡ pick b 2 0 → checkedOutput u (f ++ t) ≡ withCheck u f
+unfolding checkedOutput withCheck
+checked-behind u f t true e h = rw e (ap (λ (l : List ℕ). l ++ octetsOf 2 (syndromeOf l)) (take-at f t (length (f ++ t) - 2) (simp length-append (omega arith))))
+checked-behind u f [] false e h = rw e
+checked-behind u f (x ∷ t) false e h = absurd (omega arith)
+
+-- the octets of a control word
+pub word-length : (w : ControlWord) → length (wordOctets w) ≡ pick (flaggedBy w) 4 0
+unfolding wordOctets flaggedBy
+word-length Absent = refl
+word-length (Present v) = length-octets 4 v
+
+-- the parts of a frame fill it, and leave the data field at least one octet
+pub sizes : (u : SetUp) (w : ControlWord) → fitsOf u ≡ true
+    → (6 + closeSize u w + length (wordOctets w) + pick (u .«error_control») 2 0 ≡ u .length) × (1 ≤ closeSize u w)
+unfolding closeSize
+sizes u w e = omega (arith, in-range u e, word-length w, pick-le (flaggedBy w) 4, pick-le (u .«error_control») 2)
+
+-- the header, the word and the check written into the output make the frame
+module _ (u : SetUp) (channel : ℕ) (m : MasterCount) (k : ChannelCount) (w : ControlWord) (p : ℕ) (out o₁ o₂ o₃ : List ℕ) (at : ℕ) where
+  pub frame-written : fitsOf u ≡ true → length out ≡ u .length → at + length (wordOctets w) + pick (u .«error_control») 2 0 ≡ u .length
+      → o₁ ≡ laid out 0 (headerOctets u channel m k (flaggedBy w) p) → o₂ ≡ laid o₁ at (wordOctets w) → o₃ ≡ checkedOutput u o₂
+      → o₃ ≡ frameAround u channel m k w p (fieldIn u w out)
+  unfolding frameAround fieldIn
+  frame-written fits whole place e₁ e₂ e₃ =
+      let h = headerOctets u channel m k (flaggedBy w) p in
+      let lh : length h ≡ 6 = length-header u channel m k (flaggedBy w) p in
+      let s = sizes u w fits in
+      let ea : at ≡ length h + closeSize u w = omega arith in
+      let t = drop (length h + closeSize u w + length (wordOctets w)) out in
+      let lt : length t ≡ pick (u .«error_control») 2 0 = simp length-drop (omega arith) in
+      e₃
+      ∙ ap (checkedOutput u) (rw (e₂, e₁, ea) (laid-around out h (wordOctets w) (closeSize u w)))
+      ∙ checked-behind u (h ++ take (closeSize u w) (drop (length h) out) ++ wordOctets w) t (u .«error_control») refl lt
+      ∙ ap (λ (n : ℕ). withCheck u (h ++ take (closeSize u w) (drop n out) ++ wordOctets w)) lh
