@@ -11,7 +11,7 @@ ghost use Rattle.octets.specs.Laid.{laid};
 ghost use Rattle.octets.specs.Numbers.{octetsOf};
 ghost use Rattle.octets.specs.Pick.{pick};
 ghost use Rattle.frame.specs.Answers.{bit, closeNumberOf};
-ghost use Rattle.frame.specs.Closing.{flaggedBy, wordOctets, headerOctets, checkedOutput, closeOf, outputOf};
+ghost use Rattle.frame.specs.Closing.{flaggedBy, wordOctets, headerOctets, checkedOutput, closeOf, closeSize, outputOf};
 ghost use Rattle.frame.specs.SetUp.{fitsOf};
 
 // A control word for the frame, or none.
@@ -111,6 +111,18 @@ fn write_check(set: SetUp, output: &mut [u8])
         let at = output.len() - CHECK;
         let field = crc::syndrome(&output[..at]);
         octets::put16(output, at, field as usize);
+    }
+}
+
+// D, the length of the data field that `close` expects: of a frame with no secondary header.
+pub fn data_size_for(set: SetUp, word: ControlWord) -> usize
+    ensures { λ r. ⌜ r ≡ closeSize set word ⌝ }
+{
+    let taken = Header::SIZE + word.size() + if_present(set.error_control, CHECK);
+    if taken < set.length {
+        set.length - taken
+    } else {
+        0
     }
 }
 

@@ -5,7 +5,7 @@ mod header;
 mod opening;
 mod set_up;
 
-pub use closing::{close, Closed, CloseRefusal, ControlWord};
+pub use closing::{close, data_size_for, Closed, CloseRefusal, ControlWord};
 pub use counts::{ChannelCount, MasterCount};
 pub use header::Header;
 pub use opening::{open, Frame, Opened, Refusal};

@@ -1,3 +1,4 @@
+pub mod Chain
 pub mod Header
 pub mod Size
 pub mod Theorems

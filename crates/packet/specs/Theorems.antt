@@ -1,11 +1,13 @@
 -- What is proved of a packet's size besides the functions' contracts. The proofs are in proofs/Laws.antt, under these names in lower case.
 use mathlib.Core.Path.{_≡_}
 use mathlib.Core.Bool.{true, false}
-use mathlib.Core.List.{List, [], _++_}
-use Prim.Native.Nat.{ℕ, _≤_, _<_}
+use mathlib.Core.List.{List, [], _∷_, _++_}
+use mathlib.Core.Logic.{_↔_}
+use Prim.Native.Nat.{ℕ, _+_, _-_, _≤_, _<_}
 use lib.ListN.{length, getD, take}
 use Rattle.packet.specs.declared.source.Size.{Size}
 use Rattle.packet.specs.declared.source.Size.the-variants.{Wait, Foreign, Total}
+use Rattle.packet.specs.Chain.{chainOf, distanceOf}
 use Rattle.packet.specs.Size.{least, formatMost, versionOf, totalOf, sizeOf}
 
 -- nothing seen yet tells nothing
@@ -47,3 +49,29 @@ pub record InWords (p : List ℕ) : Type 0 where
 
 abbrev pub Size-in-words : Type 0
 Size-in-words = (p : List ℕ) → InWords p
+
+-- packets, each whole by its own header, and their octets laid end to end
+abbrev pub Whole : List ℕ → Type 0
+Whole p = sizeOf p ≡ Total (length p)
+
+abbrev pub AllWhole : List (List ℕ) → Type 0
+AllWhole [] = Unit {0}
+AllWhole (p ∷ ps) = Whole p × AllWhole ps
+
+abbrev pub endToEnd : List (List ℕ) → List ℕ
+endToEnd [] = []
+endToEnd (p ∷ ps) = p ++ endToEnd ps
+
+-- a run passes the chain test exactly when it is packets laid end to end, each whole by its own header
+abbrev pub Chain-exactly : Type 0
+Chain-exactly = (run : List ℕ) → chainOf run ≡ true ↔ ((ps : List (List ℕ)) × ((endToEnd ps ≡ run) × AllWhole ps))
+
+-- from a packet's start no octet is left to the next boundary, and from inside a packet those of its octets that are left
+abbrev pub Distance-exactly : Type 0
+Distance-exactly = (before : List (List ℕ)) (p : List ℕ) (behind : List (List ℕ)) → AllWhole before → Whole p → AllWhole behind
+    → (distanceOf (endToEnd (before ++ p ∷ behind)) (length (endToEnd before)) ≡ 0)
+      × ((i : ℕ) → 1 ≤ i → i < length p
+        → distanceOf (endToEnd (before ++ p ∷ behind)) (length (endToEnd before) + i) ≡ length p - i)
+
+abbrev pub Distance-at-end : Type 0
+Distance-at-end = (ps : List (List ℕ)) → AllWhole ps → distanceOf (endToEnd ps) (length (endToEnd ps)) ≡ 0

@@ -1,6 +1,8 @@
-// What a packet header tells: how long a source packet is, whose it is, whether it is idle.
+// What a packet header tells: how long a source packet is, whose it is, whether it is idle; and a run as a chain of packets.
+mod chain;
 mod header;
 mod source;
 
+pub use chain::{distance, is_chain};
 pub use header::Header;
 pub use source::{Packet, Size};
