@@ -1,3 +1,4 @@
 pub mod Answers
 pub mod Laying
+pub mod Theorems
 pub mod Writing
