@@ -2,11 +2,10 @@ use crate::state::{Channel, Record, State};
 use crate::store::Store;
 use packet::{Packet, Size};
 ghost use mathlib.Core.Path.{_≡_};
-ghost use Prim.Native.Nat.{_*_, _≤_, _<_};
-ghost use lib.ListN.{length, take};
-ghost use Rattle.packet.specs.Size.{most, sizeOf};
+ghost use Prim.Native.Nat.{_*_, _≤_};
+ghost use lib.ListN.{length};
+ghost use Rattle.packet.specs.Size.{most};
 ghost use Rattle.channel.specs.Rules.{judged, stateFollows, channelFollows, recordFollows};
-ghost use Rattle.channel.specs.Store.{storeFits};
 
 // What the size that k held octets tell must be.
 fn held_follows(k: usize, size: Size) -> bool

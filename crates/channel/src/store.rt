@@ -1,7 +1,7 @@
 use frame::{Header, SetUp};
 use packet::Packet;
 ghost use mathlib.Core.Path.{_≡_};
-ghost use Prim.Native.Nat.{_*_, _<_};
+ghost use Prim.Native.Nat.{_<_};
 ghost use Rattle.channel.specs.Store.{placeOf, storeFits, outputFits};
 ghost use Rattle.packet.specs.Size.{most};
 
