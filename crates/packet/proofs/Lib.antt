@@ -1,2 +1,3 @@
+pub mod ChainLaws
 pub mod HeaderLaws
 pub mod Laws
