@@ -46,6 +46,10 @@ abbrev pub Refused-untouched : Type 0
 Refused-untouched = (u : SetUp) (rec : Record) (store out f : List ℕ) (r : Refusal)
     → answerOf u rec store out f ≡ Refused r → Untouched u rec store out f
 
+-- a run of octets: each is below 256, as in every slice that code is lent
+abbrev pub Octets : List ℕ → Type 0
+Octets l = (i : ℕ) → getD l i 0 < 256
+
 -- every accepted frame keeps the rules of the record, and the lengths
 pub record Keeps (u : SetUp) (rec : Record) (store out f : List ℕ) : Type 0 where
   pub follows : recordFollows most (storeOf u rec store out f) (recordOf u rec store out f) ≡ true
@@ -54,7 +58,7 @@ pub record Keeps (u : SetUp) (rec : Record) (store out f : List ℕ) : Type 0 wh
   pub output-length : length (outputOf u rec store out f) ≡ length out
 
 abbrev pub Accepted-keeps : Type 0
-Accepted-keeps = (u : SetUp) (rec : Record) (store out f : List ℕ) (a : Report) → length (rec .channels) ≡ 8
+Accepted-keeps = (u : SetUp) (rec : Record) (store out f : List ℕ) (a : Report) → Octets store → Octets f → length (rec .channels) ≡ 8
     → answerOf u rec store out f ≡ Accepted a → Keeps u rec store out f
 
 -- only the frame's own channel and its part of the store can change

@@ -1,19 +1,17 @@
+-- `reader::kind_of` meets its contract: private by the flag, else idle or packets by the pointer.
+-- Assumes nothing.
+use Rattle.reader.proofs.ReadLaws.{kind-private, kind-idle, kind-packets}
 use Rattle.reader.proofs.reading.kind_of.Statement.{statement}
 use Rattle.reader.proofs.reading.kind_of.Tie as tie
-use Rattle.reader.proofs.reading.kind_of.Reads as reads
-use Rattle.reader.proofs.reading.kind_of.Lts as lts
 
--- src/reading.rt:60:9
 returns : tie.Need-returns
-returns c = ?
+returns c = kind-private _ (c .if1 .taken)
 
--- src/reading.rt:63:9
 returns-2 : tie.Need-returns-2
-returns-2 c = ?
+returns-2 c = kind-idle _ (c .before .before .if1 .left) (c .if2 .taken)
 
--- src/reading.rt:56:1
 returns-3 : tie.Need-returns-3
-returns-3 c = ?
+returns-3 c = kind-packets _ (c .before .before .if1 .left) (c .if2 .left)
 
 pub kind-of-spec : {M : Type 1} → statement M
 kind-of-spec = tie.close (tie.spec returns returns-2 returns-3)

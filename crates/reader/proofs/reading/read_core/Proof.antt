@@ -1,107 +1,145 @@
+-- `reader::read_core` meets its contract: each test is a row of the table, and the frame part answers for its own.
+-- Assumes nothing.
+use mathlib.Core.Path.{_≡_, _∙_, sym}
+use mathlib.Core.Bool.{Bool, true, false, not}
 use borrow.Author.Needs.{needs}
+use borrow.Author.Tests.{not-true, not-false}
+use lib.ListN.{length}
+use Rattle.packet.specs.Size.{most}
+use Rattle.frame.specs.Opening.{frameOf}
+use Rattle.frame.specs.SetUp.{fitsOf}
+use Rattle.frame.specs.Table.{None}
+use Rattle.channel.specs.Rules.{recordFollows}
+use Rattle.channel.specs.Store.{storeFits, outputFits}
+use Rattle.reader.specs.Reading.{readTable}
+use Rattle.reader.proofs.ReadLaws.{at-set-up, at-store, at-output, at-record, at-frame, at-none, whole-store, refuses, accepts, ready}
 use Rattle.reader.proofs.reading.read_core.Statement.{statement}
 use Rattle.reader.proofs.reading.read_core.Tie as tie
-use Rattle.reader.proofs.reading.read_core.Reads as reads
-use Rattle.reader.proofs.reading.read_core.Lts as lts
-use Rattle.channel.proofs.follows.Reads as follows-reads
-use Rattle.channel.proofs.store.Output.fits.Reads as store-Output-fits-reads
-use Rattle.channel.proofs.store.Store.fits.Reads as store-Store-fits-reads
-use Rattle.frame.proofs.open.Reads as open-reads
-use Rattle.frame.proofs.set_up.SetUp.fits.Reads as set-up-SetUp-fits-reads
-use Rattle.reader.proofs.reading.accept.Reads as accept-reads
-use Rattle.reader.proofs.reading.refused.Reads as refused-reads
 
--- src/reading.rt:121:9
+-- a test that failed, and one that held
+failed : {r b : Bool} → r ≡ b → not r ≡ true → b ≡ false
+failed e h = sym e ∙ not-true _ h
+
+held : {r b : Bool} → r ≡ b → not r ≡ false → b ≡ true
+held e h = sym e ∙ not-false _ h
+
+-- the tests that are passed, one behind the other
+set-up : (c : tie.Else1) → fitsOf (c .before .before .before .before .before .args .set) ≡ true
+set-up c = held (c .before .fits2 .ensures) (c .if1 .left)
+
+store-fits : (c : tie.Else2)
+    → storeFits most (length (c .before .before .before .before .before .before .before .args .store .now)) ≡ true
+store-fits c = held (c .before .fits3 .ensures) (c .if2 .left)
+
+output-fits : (c : tie.Else3)
+    → outputFits most (length (c .before .before .before .before .before .before .before .before .before .args .out .now)) ≡ true
+output-fits c = held (c .before .fits4 .ensures) (c .if3 .left)
+
+record-follows : (c : tie.Else4)
+    → let a = c .before .before .before .before .before .before .before .before .before .before .before .before .args in
+    recordFollows most (a .store .now) (a .rec) ≡ true
+record-follows c = held (c .before .follows .ensures) (c .if4 .left)
+
+-- no cause is found
+none-found : (c : tie.After-known-told2)
+    → let a = c .before .before .before .before .before .before .before .before .before .before .before .before .before .before .before .before .args in
+    (c .before .x .given .0 .0 ≡ frameOf (a .set) (a .frame .now)) × None (readTable (a .set) (a .rec) (a .store .now) (a .out .now) (a .frame .now))
+none-found c =
+    let e4 = c .before .before .before .before in
+    let e3 = e4 .before .before .before in
+    let e2 = e3 .before .before in
+    at-none _ _ _ _ _ (set-up (e2 .before .before)) (store-fits e2) (output-fits e3) (record-follows e4) _ (cc)
+
 fits-requires : tie.Need-fits-requires
 fits-requires c κs = search needs
 
--- src/reading.rt:122:9
 refused-requires : tie.Need-refused-requires
 refused-requires c κs = search needs
 
--- src/reading.rt:122:9
 returns : tie.Need-returns
-returns c = ?
+returns c =
+    refuses _ _ _ _ _ _ _
+    (at-set-up _ _ _ _ _ (failed (c .before .before .fits2 .ensures) (c .before .if1 .taken)))
+    (c .refused .ensures)
 
--- src/reading.rt:124:9
 fits-requires-2 : tie.Need-fits-requires-2
 fits-requires-2 c κs = search needs
 
--- src/reading.rt:125:9
 refused-requires-2 : tie.Need-refused-requires-2
 refused-requires-2 c κs = search needs
 
--- src/reading.rt:125:9
 returns-2 : tie.Need-returns-2
-returns-2 c = ?
+returns-2 c =
+    refuses _ _ _ _ _ _ _
+    (at-store _ _ _ _ _ (set-up (c .before .before .before)) (failed (c .before .before .fits3 .ensures) (c .before .if2 .taken)))
+    (c .refused2 .ensures)
 
--- src/reading.rt:127:9
 fits-requires-3 : tie.Need-fits-requires-3
 fits-requires-3 c κs = search needs
 
--- src/reading.rt:128:9
 refused-requires-3 : tie.Need-refused-requires-3
 refused-requires-3 c κs = search needs
 
--- src/reading.rt:128:9
 returns-3 : tie.Need-returns-3
-returns-3 c = ?
+returns-3 c =
+    let e2 = c .before .before .before in
+    refuses _ _ _ _ _ _ _
+    (at-output _ _ _ _ _ (set-up (e2 .before .before)) (store-fits e2) (failed (c .before .before .fits4 .ensures) (c .before .if3 .taken)))
+    (c .refused3 .ensures)
 
--- src/reading.rt:130:9
 follows-requires : tie.Need-follows-requires
-follows-requires c κs = ?
+follows-requires c κs = whole-store _ (store-fits (c .before .before .before))
 
--- src/reading.rt:131:9
 refused-requires-4 : tie.Need-refused-requires-4
 refused-requires-4 c κs = search needs
 
--- src/reading.rt:131:9
 same-length : tie.Need-same-length
 same-length c = search needs
 
--- src/reading.rt:131:9
 returns-4 : tie.Need-returns-4
-returns-4 c = ?
+returns-4 c =
+    let e3 = c .before .before .before .before in
+    let e2 = e3 .before .before in
+    refuses _ _ _ _ _ _ _
+    (at-record _ _ _ _ _ (set-up (e2 .before .before)) (store-fits e2) (output-fits e3)
+    (failed (c .before .before .follows .ensures) (c .before .if4 .taken)))
+    (c .refused4 .ensures)
 
--- src/reading.rt:133:11
 open-requires : tie.Need-open-requires
 open-requires c κs = search needs
 
--- src/reading.rt:134:25
 enum-known-refusal : tie.Need-enum-known-refusal
 enum-known-refusal c = search needs
 
--- src/reading.rt:134:37
 refused-requires-5 : tie.Need-refused-requires-5
 refused-requires-5 c κs = search needs
 
--- src/reading.rt:135:26
 enum-known-x : tie.Need-enum-known-x
 enum-known-x c = search needs
 
--- src/reading.rt:135:32
 accept-requires : tie.Need-accept-requires
-accept-requires c κs = ?
+accept-requires c κs = ready _ _ _ _ _ _ (none-found (c .before .before))
 
--- src/reading.rt:118:1
 same-length-2 : tie.Need-same-length-2
 same-length-2 c = search needs
 
--- src/reading.rt:118:1
 returns-5 : tie.Need-returns-5
-returns-5 c = ?
+returns-5 c =
+    let e4 = c .before .before .before .before .before in
+    let e3 = e4 .before .before .before in
+    let e2 = e3 .before .before in
+    refuses _ _ _ _ _ _ _
+    (at-frame _ _ _ _ _ (set-up (e2 .before .before)) (store-fits e2) (output-fits e3) (record-follows e4) _ (cc))
+    (c .refused5 .ensures)
 
--- src/reading.rt:118:1
 same-length-3 : tie.Need-same-length-3
 same-length-3 c = search needs
 
--- src/reading.rt:118:1
 same-length-4 : tie.Need-same-length-4
 same-length-4 c = search needs
 
--- src/reading.rt:118:1
 returns-6 : tie.Need-returns-6
-returns-6 c = ?
+returns-6 c = accepts _ _ _ _ _ _ (none-found (c .before .before .before .before .before .before .before)) _ _ _ _ (c .before .before .before .before .accept .ensures)
 
 pub read-core-spec : {M : Type 1} → statement M
 read-core-spec =

@@ -1,53 +1,44 @@
+-- `reader::agreeing` meets its contract: the test of each case of the size.
+-- Assumes nothing.
+use mathlib.Core.Path.{refl}
+use native.Mathlib.Omega.{arith}
+use Rattle.reader.proofs.StepLaws.{agrees-start, agrees-wait, agrees-foreign, agrees-total}
 use borrow.Author.Needs.{needs}
 use Rattle.reader.proofs.steps.agreeing.Statement.{statement}
 use Rattle.reader.proofs.steps.agreeing.Tie as tie
-use Rattle.reader.proofs.steps.agreeing.Reads as reads
-use Rattle.reader.proofs.steps.agreeing.Lts as lts
-use Rattle.reader.proofs.steps.called_at.Reads as called-at-reads
 
--- src/steps.rt:170:27
 called-at-requires : tie.Need-called-at-requires
 called-at-requires c κs = search needs
 
--- src/steps.rt:170:9
 returns : tie.Need-returns
-returns c = ?
+returns c = agrees-start _ _ _ _ _ (c .called-at .ensures) (c .before .if1 .taken)
 
--- src/steps.rt:173:23
 enum-told : tie.Need-enum-told
 enum-told c = search needs
 
--- src/steps.rt:174:26
 enum-told-2 : tie.Need-enum-told-2
 enum-told-2 c = search needs
 
--- src/steps.rt:175:21
 enum-known-size : tie.Need-enum-known-size
 enum-known-size c = search needs
 
--- src/steps.rt:177:35
 called-at-requires-2 : tie.Need-called-at-requires-2
 called-at-requires-2 c κs = search needs
 
--- src/steps.rt:177:17
 returns-2 : tie.Need-returns-2
-returns-2 c = ?
+returns-2 c = agrees-total _ _ _ _ (c .before .before .before .before .before .if1 .left) (c .before .before .before .size .given .0 .0) _ 0 (cc) (c .called-at2 .ensures) (omega arith)
 
--- src/steps.rt:179:24
 called-at-requires-3 : tie.Need-called-at-requires-3
 called-at-requires-3 c κs = search needs
 
--- src/steps.rt:166:1
 returns-3 : tie.Need-returns-3
-returns-3 c = ?
+returns-3 c = agrees-wait _ _ _ _ (c .before .before .if1 .left) (cc)
 
--- src/steps.rt:166:1
 returns-4 : tie.Need-returns-4
-returns-4 c = ?
+returns-4 c = agrees-foreign _ _ _ _ (c .before .before .if1 .left) (cc)
 
--- src/steps.rt:166:1
 returns-5 : tie.Need-returns-5
-returns-5 c = ?
+returns-5 c = agrees-total _ _ _ _ (c .before .before .before .before .before .if1 .left) (c .before .before .before .size .given .0 .0) _ _ (cc) (c .called-at3 .ensures) refl
 
 pub agreeing-spec : {M : Type 1} → statement M
 agreeing-spec =

@@ -1,15 +1,14 @@
+-- `reader::called_at` meets its contract: the end itself below D, else 2047.
+-- Assumes nothing.
+use Rattle.reader.proofs.StepLaws.{called-within, called-none}
 use Rattle.reader.proofs.steps.called_at.Statement.{statement}
 use Rattle.reader.proofs.steps.called_at.Tie as tie
-use Rattle.reader.proofs.steps.called_at.Reads as reads
-use Rattle.reader.proofs.steps.called_at.Lts as lts
 
--- src/steps.rt:159:1
 returns : tie.Need-returns
-returns c = ?
+returns c = called-within _ _ (c .if1 .taken)
 
--- src/steps.rt:159:1
 returns-2 : tie.Need-returns-2
-returns-2 c = ?
+returns-2 c = called-none _ _ (c .if1 .left)
 
 pub called-at-spec : {M : Type 1} → statement M
 called-at-spec = tie.close (tie.spec returns returns-2)

@@ -1,42 +1,43 @@
+-- `reader::finish` meets its contract: an idle packet is counted, and another stands in the output.
+-- Assumes nothing.
+use Prim.Native.Nat.{_-_}
+use native.Mathlib.Omega.{arith}
+use lib.ListN.{length, length-take}
+use Rattle.reader.proofs.GatherLaws.{finish-idle, finish-delivered}
 use borrow.Author.Needs.{needs}
 use Rattle.reader.proofs.steps.finish.Statement.{statement}
 use Rattle.reader.proofs.steps.finish.Tie as tie
-use Rattle.reader.proofs.steps.finish.Reads as reads
-use Rattle.reader.proofs.steps.finish.Lts as lts
-use Rattle.octets.proofs.copy.Reads as copy-reads
-use Rattle.packet.proofs.source.Packet.idle_across.Reads as idle-across-reads
 
--- src/steps.rt:106:8
 idle-across-requires : tie.Need-idle-across-requires
 idle-across-requires c κs = search needs
 
--- src/steps.rt:107:9
 returns : tie.Need-returns
-returns c = ?
+returns c = let s = c .before .before .before .before .before in
+    let a = s .args in
+    finish-idle (a .held .now) (a .field .now) (a .out .now) (a .total) (s .pre .0) (cc)
 
--- src/steps.rt:114:16
 sub-rest : tie.Need-sub-rest
 sub-rest c = search needs
 
--- src/steps.rt:115:5
 copy-requires : tie.Need-copy-requires
 copy-requires c κs = search needs
 
--- src/steps.rt:116:26
 slice-aggregate-copy : tie.Need-slice-aggregate-copy
-slice-aggregate-copy c = ?
+slice-aggregate-copy c = let a = c .before .before .before .before .before .before .before .before .before .before .before .args in
+    omega (arith, length-take (a .total - length (a .held .now)) (a .field .now))
 
--- src/steps.rt:116:5
 copy-requires-2 : tie.Need-copy-requires-2
-copy-requires-2 c κs = ?
+copy-requires-2 c κs = let a = c .before .before .before .before .before .before .before .before .before .before .before .args in
+    omega (arith, length-take (a .total - length (a .held .now)) (a .field .now), c .before .before .before .before .copy .kept .0)
 
--- src/steps.rt:101:1
 same-length : tie.Need-same-length
 same-length c = search needs
 
--- src/steps.rt:101:1
 returns-2 : tie.Need-returns-2
-returns-2 c = ?
+returns-2 c = let s = c .before .before .before .before .before .before .before .before .before .before .before .before .before .before in
+    let a = s .args in
+    let p = s .pre in
+    finish-delivered (a .held .now) (a .field .now) (a .out .now) (a .total) (p .0) (p .1) (p .2) (p .3) (cc) _ _ (c .before .before .before .before .before .before .before .copy .ensures) (c .before .before .copy2 .ensures)
 
 pub finish-spec : {M : Type 1} → statement M
 finish-spec =

@@ -1,21 +1,20 @@
+-- `reader::gap_for` meets its contract: 0 if unheard, else the gap of the two counts.
+-- Assumes nothing.
+use Rattle.reader.specs.Steps.{gapFor}
 use borrow.Author.Needs.{needs}
 use Rattle.reader.proofs.steps.gap_for.Statement.{statement}
 use Rattle.reader.proofs.steps.gap_for.Tie as tie
-use Rattle.reader.proofs.steps.gap_for.Reads as reads
-use Rattle.reader.proofs.steps.gap_for.Lts as lts
-use Rattle.frame.proofs.counts.ChannelCount.gap.Reads as gap-reads
 
--- src/steps.rt:281:9
 gap-requires : tie.Need-gap-requires
 gap-requires c κs = search needs
 
--- src/steps.rt:275:1
 returns : tie.Need-returns
-returns c = ?
+unfolding gapFor
+returns c = rw (c .before .before .before .if1 .taken) (c .gap .ensures)
 
--- src/steps.rt:275:1
 returns-2 : tie.Need-returns-2
-returns-2 c = ?
+unfolding gapFor
+returns-2 c = rw (c .if1 .left)
 
 pub gap-for-spec : {M : Type 1} → statement M
 gap-for-spec = tie.close (tie.spec gap-requires returns returns-2)

@@ -1,79 +1,68 @@
+-- `reader::resume_skipping` meets its contract: a disagreement, a skip that goes on, and one that ends in the field.
+-- Assumes nothing.
+use mathlib.Core.Path.{refl, _∙_, sym}
+use native.Mathlib.Omega.{arith}
+use Rattle.reader.proofs.CutLaws.{cut-fits}
+use Rattle.reader.proofs.DoneLaws.{did-as, did-disagreed, did-nothing, did-walk}
+use Rattle.reader.proofs.StepLaws.{skips-apart, skips-on, skips-out, walk-room}
 use borrow.Author.Needs.{needs}
 use Rattle.reader.proofs.steps.resume_skipping.Statement.{statement}
 use Rattle.reader.proofs.steps.resume_skipping.Tie as tie
-use Rattle.reader.proofs.steps.resume_skipping.Reads as reads
-use Rattle.reader.proofs.steps.resume_skipping.Lts as lts
-use Rattle.reader.proofs.steps.called_at.Reads as called-at-reads
-use Rattle.reader.proofs.steps.disagreement.Reads as disagreement-reads
-use Rattle.reader.proofs.steps.hunt.Reads as hunt-reads
-use Rattle.reader.proofs.steps.none_yet.Reads as none-yet-reads
-use Rattle.reader.proofs.steps.plain.Reads as plain-reads
-use Rattle.reader.proofs.steps.settle.Reads as settle-reads
-use Rattle.reader.proofs.walking.walk.Reads as walk-reads
 
--- src/steps.rt:240:19
 called-at-requires : tie.Need-called-at-requires
 called-at-requires c κs = search needs
 
--- src/steps.rt:241:49
 hunt-requires : tie.Need-hunt-requires
 hunt-requires c κs = search needs
 
--- src/steps.rt:241:9
 disagreement-requires : tie.Need-disagreement-requires
 disagreement-requires c κs = search needs
 
--- src/steps.rt:241:9
 same-length : tie.Need-same-length
 same-length c = search needs
 
--- src/steps.rt:241:9
 same-length-2 : tie.Need-same-length-2
 same-length-2 c = search needs
 
--- src/steps.rt:241:9
 returns : tie.Need-returns
-returns c = ?
+returns c = let i = c .before .before .before .before .before .before .before .before in
+    did-as (skips-apart _ _ _ _ _ (λ e. i .if1 .taken (e ∙ sym (i .before .called-at .ensures))))
+    (did-disagreed _ (c .before .before .before .before .before .hunt .ensures) (c .disagreement .ensures))
 
--- src/steps.rt:244:22
 none-yet-requires : tie.Need-none-yet-requires
 none-yet-requires c κs = search needs
 
--- src/steps.rt:244:50
 sub-t18 : tie.Need-sub-t18
 sub-t18 c = search needs
 
--- src/steps.rt:244:9
 plain-requires : tie.Need-plain-requires
 plain-requires c κs = search needs
 
--- src/steps.rt:244:9
 returns-2 : tie.Need-returns-2
-returns-2 c = ?
+returns-2 c = did-as (skips-on _ _ _ _ _ (cc) (c .before .before .if2 .taken)) (did-nothing _ 0 0 _ _ _ _ (c .before .none-yet .ensures) (c .plain .ensures))
 
--- src/steps.rt:246:40
 none-yet-requires-2 : tie.Need-none-yet-requires-2
 none-yet-requires-2 c κs = search needs
 
--- src/steps.rt:246:9
 walk-requires : tie.Need-walk-requires
-walk-requires c κs = ?
+walk-requires c κs = walk-room (c .before .before .before .before .before .before .before .before .pre .0) _ _ (c .before .before .if2 .left) (c .none-yet2 .ensures)
 
--- src/steps.rt:247:5
 settle-requires : tie.Need-settle-requires
-settle-requires c κs = ?
+settle-requires c κs = let w = c .before .before .before in
+    cut-fits _ _ _ (w .before .before .before .if2 .left) _ (omega (arith, w .before .before .before .before .before .before .before .before .before .pre .0)) _ _ (w .walk .ensures .0)
 
--- src/steps.rt:234:1
 same-length-3 : tie.Need-same-length-3
 same-length-3 c = search needs
 
--- src/steps.rt:234:1
 same-length-4 : tie.Need-same-length-4
 same-length-4 c = search needs
 
--- src/steps.rt:234:1
 returns-3 : tie.Need-returns-3
-returns-3 c = ?
+returns-3 c = let s = c .before .before .settle .ensures in
+    let w = c .before .before .before .before .before .before in
+    let i = w .before .before .before .if2 .left in
+    did-as (skips-out _ _ _ _ _ (cc) i)
+    (did-walk _ _ _ i _ _ _ _ _ _ _ refl refl _ (w .before .none-yet2 .ensures) (w .walk .ensures .0) (w .walk .ensures .1) (s .0) (s .1))
 
 pub resume-skipping-spec : {M : Type 1} → statement M
 resume-skipping-spec =

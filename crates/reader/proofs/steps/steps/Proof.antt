@@ -1,70 +1,60 @@
+-- `reader::steps` meets its contract: idle and private frames, a gap, and else the state.
+-- Assumes nothing.
+use mathlib.Core.Path.{_∙_}
+use Rattle.reader.proofs.DoneLaws.{did-as, did-broke, did-nothing}
+use Rattle.reader.proofs.StepLaws.{carries-packets, state-follows, steps-none, steps-gap, steps-on}
 use borrow.Author.Needs.{needs}
 use Rattle.reader.proofs.steps.steps.Statement.{statement}
 use Rattle.reader.proofs.steps.steps.Tie as tie
-use Rattle.reader.proofs.steps.steps.Reads as reads
-use Rattle.reader.proofs.steps.steps.Lts as lts
-use Rattle.reader.proofs.steps.break_off.Reads as break-off-reads
-use Rattle.reader.proofs.steps.carries_none.Reads as carries-none-reads
-use Rattle.reader.proofs.steps.hunt.Reads as hunt-reads
-use Rattle.reader.proofs.steps.none_yet.Reads as none-yet-reads
-use Rattle.reader.proofs.steps.plain.Reads as plain-reads
-use Rattle.reader.proofs.steps.resume.Reads as resume-reads
 
--- src/steps.rt:295:8
 carries-none-requires : tie.Need-carries-none-requires
 carries-none-requires c κs = search needs
 
--- src/steps.rt:296:39
 none-yet-requires : tie.Need-none-yet-requires
 none-yet-requires c κs = search needs
 
--- src/steps.rt:296:33
 plain-requires : tie.Need-plain-requires
 plain-requires c κs = search needs
 
--- src/steps.rt:296:9
 break-off-requires : tie.Need-break-off-requires
 break-off-requires c κs = search needs
 
--- src/steps.rt:296:9
 returns : tie.Need-returns
-returns c = ?
+returns c = did-as (steps-none _ _ _ _ _ (cc))
+    (did-broke _ (did-nothing _ 0 0 _ _ _ _ (c .before .before .none-yet .ensures) (c .before .plain .ensures)) (c .break-off .ensures))
 
--- src/steps.rt:299:33
 hunt-requires : tie.Need-hunt-requires
-hunt-requires c κs = ?
+hunt-requires c κs = let s = c .before .before .before .before .before .before .before .before in
+    let q = carries-packets (s .args .h) (cc) in
+    (s .pre .0 (q .0), q .1)
 
--- src/steps.rt:299:9
 break-off-requires-2 : tie.Need-break-off-requires-2
 break-off-requires-2 c κs = search needs
 
--- src/steps.rt:299:9
 same-length : tie.Need-same-length
 same-length c = search needs
 
--- src/steps.rt:299:9
 same-length-2 : tie.Need-same-length-2
 same-length-2 c = search needs
 
--- src/steps.rt:299:9
 returns-2 : tie.Need-returns-2
-returns-2 c = ?
+returns-2 c = let i = c .before .before .before .before .before .before .before .before in
+    did-as (steps-gap _ _ _ _ _ (cc) (λ g. i .if2 .taken (i .before .before .before .before .before .before .pre .1 .1 ∙ g)))
+    (did-broke _ (c .before .before .before .before .before .hunt .ensures) (c .break-off2 .ensures))
 
--- src/steps.rt:301:5
 resume-requires : tie.Need-resume-requires
-resume-requires c κs = ?
+resume-requires c κs = let s = c .before .before .before .before .before .before .before .before in
+    let q = carries-packets (s .args .h) (cc) in
+    (s .pre .0 (q .0), (q .1, state-follows _ _ _ (s .pre .1 .0)))
 
--- src/steps.rt:288:1
 same-length-3 : tie.Need-same-length-3
 same-length-3 c = search needs
 
--- src/steps.rt:288:1
 same-length-4 : tie.Need-same-length-4
 same-length-4 c = search needs
 
--- src/steps.rt:288:1
 returns-3 : tie.Need-returns-3
-returns-3 c = ?
+returns-3 c = did-as (steps-on _ _ _ _ _ (cc) (cc)) (c .before .before .before .before .resume .ensures)
 
 pub steps-spec : {M : Type 1} → statement M
 steps-spec =

@@ -1,0 +1,125 @@
+-- The theorems of specs/Theorems.antt.
+-- Assumes nothing.
+use mathlib.Core.Path.{_≡_, refl, _∙_, sym, ap}
+use mathlib.Core.List.{List}
+use Prim.Native.Nat.{ℕ, _<_}
+use native.Mathlib.Omega.{arith}
+use lib.Dec.{eqb}
+use lib.ListN.{getD}
+use Rattle.octets.specs.Pick.{pick}
+use Rattle.frame.specs.Opening.{frameOf}
+use Rattle.frame.specs.declared.opening.Refusal.the-variants.{SetUpRange, FrameLength, FrameCheck, FrameVersion, OtherSpacecraft, SecondaryHeader, NoData, OrderOrSegment, PointerPlace}
+use Rattle.frame.specs.declared.set_up.SetUp.{SetUp}
+use Rattle.frame.proofs.NumberLaws.{number-one as frame-number-one}
+use Rattle.frame.proofs.TableLaws.{first-exactly, made}
+use Rattle.channel.specs.declared.state.Record.{Record}
+use Rattle.reader.specs.declared.reading.Answer.{Answer}
+use Rattle.reader.specs.declared.reading.Answer.the-variants.{Refused, Accepted}
+use Rattle.reader.specs.declared.reading.Refusal.{Refusal}
+use Rattle.reader.specs.declared.reading.Refusal.the-variants.{OfFrame, StoreLength, OutputLength, BrokenRecord}
+use Rattle.reader.specs.declared.reading.Report.{Report}
+use Rattle.reader.specs.Answers.{numberOf, valuesOf}
+use Rattle.reader.specs.Reading.{readTable, channelOf, doneBy, reportOf, answerOf, storeOf, Ready}
+use Rattle.reader.specs.Theorems.{Octets, Number-exactly, Accepted-exactly, Refused-untouched, Accepted-keeps, Others-apart, Few-enough, Walk-few}
+use Rattle.reader.proofs.AfterLaws.{store-kept, output-kept, channels-kept, octets-kept, other-part, other-channel, record-kept, done-few}
+use Rattle.reader.proofs.ReadLaws.{LeftBy, found-none, found-cause, leaves, ready, refuses}
+use Rattle.reader.proofs.WalkLaws.{walk-count}
+
+-- a number tells its refusal: the reader's own numbers are none of the frame part's
+abbrev own : ℕ → Refusal → Refusal
+own n other = pick (eqb n 2) StoreLength (pick (eqb n 3) OutputLength (pick (eqb n 4) BrokenRecord other))
+
+case-own : (r : Refusal) → (own (numberOf r) r ≡ r) × (0 < numberOf r)
+case-own StoreLength = (refl, omega arith)
+case-own OutputLength = (refl, omega arith)
+case-own BrokenRecord = (refl, omega arith)
+case-own (OfFrame SetUpRange) = (refl, omega arith)
+case-own (OfFrame FrameLength) = (refl, omega arith)
+case-own (OfFrame FrameCheck) = (refl, omega arith)
+case-own (OfFrame FrameVersion) = (refl, omega arith)
+case-own (OfFrame OtherSpacecraft) = (refl, omega arith)
+case-own (OfFrame SecondaryHeader) = (refl, omega arith)
+case-own (OfFrame NoData) = (refl, omega arith)
+case-own (OfFrame OrderOrSegment) = (refl, omega arith)
+case-own (OfFrame PointerPlace) = (refl, omega arith)
+
+of-number : (s : Refusal) (n : ℕ) → numberOf s ≡ n → own n s ≡ s
+of-number s n e = rw (← e) (case-own s .0)
+
+number-one : (s r : Refusal) → numberOf s ≡ numberOf r → s ≡ r
+number-one s StoreLength e = sym (of-number s 2 e)
+number-one s OutputLength e = sym (of-number s 3 e)
+number-one s BrokenRecord e = sym (of-number s 4 e)
+number-one StoreLength (OfFrame r) e = of-number (OfFrame r) 2 (sym e)
+number-one OutputLength (OfFrame r) e = of-number (OfFrame r) 3 (sym e)
+number-one BrokenRecord (OfFrame r) e = of-number (OfFrame r) 4 (sym e)
+number-one (OfFrame s) (OfFrame r) e = ap OfFrame (frame-number-one s r e)
+
+abbrev first-value : Answer → ℕ
+first-value a = getD (valuesOf a) 0 0
+
+pub number-exactly : Number-exactly
+unfolding answerOf valuesOf
+number-exactly u rec store out f r =
+    rw (made first-value Refused _ (readTable u rec store out f))
+    (first-exactly numberOf 0 number-one (λ r e. omega (arith, case-own r .1)) (readTable u rec store out f) r)
+
+pub accepted-exactly : Accepted-exactly
+accepted-exactly u rec store out f =
+    (λ h. found-none u rec store out f (h .0) (h .1), λ n. (_, sym (leaves u rec store out f n .answers)))
+
+pub refused-untouched : Refused-untouched
+refused-untouched u rec store out f r e =
+    let l = refuses u rec store out f r _ (found-cause u rec store out f r e) refl in
+    record { same-record = sym (l .record-left); same-store = sym (l .store-left); same-output = sym (l .output-left) }
+
+pub walk-few : Walk-few
+walk-few limit d = omega (arith, walk-count limit d)
+
+-- a call that was accepted: what its steps could rely on, what they left, and its answer
+module _ (u : SetUp) (rec : Record) (store out f : List ℕ) (a : Report) (e : answerOf u rec store out f ≡ Accepted a) where
+  relied : Ready rec (frameOf u f) f store out
+  relied = ready u rec store out f (frameOf u f) (refl, found-none u rec store out f a e)
+
+  left : LeftBy u rec store out f
+  left = leaves u rec store out f (found-none u rec store out f a e)
+
+  told : reportOf (frameOf u f) (channelOf (frameOf u f) rec) (doneBy (frameOf u f) rec store f) ≡ a
+  told = cc (left .answers)
+
+pub accepted-keeps : Accepted-keeps
+accepted-keeps u rec store out f a os of eight e =
+    let x = frameOf u f in
+    let r = relied u rec store out f a e in
+    let l = left u rec store out f a e in
+    record {
+      follows = rw (← (l .store-left), ← (l .record-left)) (record-kept rec x f store out r os of eight);
+      eight = rw (← (l .record-left)) (channels-kept rec x f store out r ∙ eight);
+      store-length = rw (← (l .store-left)) (store-kept rec x f store out r);
+      output-length = rw (← (l .output-left)) (output-kept rec x f store out r);
+    }
+
+-- and the store stays a store of octets, whatever the answer
+pub store-octets : (u : SetUp) (rec : Record) (store out f : List ℕ) → Octets store → Octets f → Octets (storeOf u rec store out f)
+store-octets u rec store out f os of = go (answerOf u rec store out f) refl
+  where
+    go : (a : Answer) → answerOf u rec store out f ≡ a → Octets (storeOf u rec store out f)
+    go (Refused r) e = rw (refused-untouched u rec store out f r e .same-store) os
+    go (Accepted a) e =
+        rw (← (left u rec store out f a e .store-left)) (octets-kept rec (frameOf u f) f store out (relied u rec store out f a e) os of)
+
+pub others-apart : Others-apart
+unfolding reportOf
+others-apart u rec store out f a w e h n =
+    let x = frameOf u f in
+    let r = relied u rec store out f a e in
+    let l = left u rec store out f a e in
+    let other : w ≡ x .header .channel → ⊥ = λ q. n (q ∙ ap (λ (b : Report). b .header .channel) (told u rec store out f a e)) in
+    record {
+      channel-kept = rw (← (l .record-left)) (other-channel rec x f store out r w other);
+      part-kept = rw (← (l .store-left)) (other-part rec x f store out r w h other);
+    }
+
+pub few-enough : Few-enough
+few-enough u rec store out f a e =
+    rw (told u rec store out f a e) at (done-few rec (frameOf u f) f store out (relied u rec store out f a e))

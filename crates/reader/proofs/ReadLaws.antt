@@ -1,0 +1,183 @@
+-- One call by its table: the first cause found, row by row, and what a refusal and an acceptance answer and leave.
+-- Assumes nothing.
+use mathlib.Core.Path.{_≡_, refl, _∙_, sym, ap}
+use mathlib.Core.Bool.{true, false, false≢true}
+use mathlib.Core.List.{List, [], _∷_, map}
+use mathlib.Core.Logic.{inl, inr}
+use Prim.Native.Nat.{ℕ, _+_, _*_}
+use native.Mathlib.Omega.{arith}
+use lib.ListN.{length, getD, drop}
+use borrow.Author.Tests.{not-false, eqb-true, leb-true, eq-eqb, ne-eqb}
+use Rattle.packet.specs.Size.{most}
+use Rattle.frame.specs.Answers.{valuesOf as frameValuesOf}
+use Rattle.frame.specs.Opening.{row1, openTable, openOf, frameOf, idleData}
+use Rattle.frame.specs.SetUp.{fitsOf}
+use Rattle.frame.specs.Table.{Row, First, None}
+use Rattle.frame.specs.declared.header.Header.{Header}
+use Rattle.frame.specs.declared.opening.Frame.{Frame}
+use Rattle.frame.specs.declared.opening.Opened.{Opened}
+use Rattle.frame.specs.declared.opening.Refusal.{Refusal as FrameRefusal}
+use Rattle.frame.specs.declared.opening.Refusal.the-variants.{SetUpRange}
+use Rattle.frame.specs.declared.set_up.SetUp.{SetUp}
+use Rattle.frame.proofs.Laws.{number-exactly as frame-number-exactly, accepted-exactly as frame-accepted-exactly, opened-sound}
+use Rattle.frame.proofs.TableLaws.{first-gives, none-gives, first-exactly, none-exactly}
+use Rattle.channel.specs.Rules.{recordFollows}
+use Rattle.channel.specs.Store.{storeFits, outputFits}
+use Rattle.channel.specs.declared.state.Record.{Record}
+use Rattle.reader.specs.declared.reading.Answer.{Answer}
+use Rattle.reader.specs.declared.reading.Answer.the-variants.{Refused, Accepted}
+use Rattle.reader.specs.declared.reading.Outcome.{Outcome}
+use Rattle.reader.specs.declared.reading.Refusal.{Refusal}
+use Rattle.reader.specs.declared.reading.Refusal.the-variants.{OfFrame, StoreLength, OutputLength, BrokenRecord}
+use Rattle.reader.specs.declared.reading.Report.{Report}
+use Rattle.reader.specs.declared.steps.Kind.the-variants.{Packets, Idle, Private}
+use Rattle.reader.specs.Reading.{kindOf, ofFrame, readTable, channelOf, doneBy, reportOf, recordAfter, storeAfter, outputAfter, answerOf, recordOf, storeOf, outputOf, Read, ReadBy, Ready}
+
+-- the kind of a frame
+module _ (h : Header) where
+  pub kind-private : h .synchronisation ≡ true → Private ≡ kindOf h
+  unfolding kindOf
+  kind-private a = rw a
+
+  pub kind-idle : h .synchronisation ≡ false → h .pointer ≡ idleData → Idle ≡ kindOf h
+  unfolding kindOf
+  kind-idle a b = rw (a, eq-eqb (h .pointer) idleData b)
+
+  pub kind-packets : h .synchronisation ≡ false → (h .pointer ≡ idleData → ⊥) → Packets ≡ kindOf h
+  unfolding kindOf
+  kind-packets a b = rw (a, ne-eqb (h .pointer) idleData b)
+
+-- the frame part's rows, as rows of the reader's table
+first-up : (rows : List (Row FrameRefusal)) (r : FrameRefusal) → First rows r → First (map ofFrame rows) (OfFrame r)
+first-up [] r h = h
+first-up (a ∷ rows) r (inl h) = inl (ap OfFrame (h .0), h .1)
+first-up (a ∷ rows) r (inr h) = inr (h .0, first-up rows r (h .1))
+
+none-up : (rows : List (Row FrameRefusal)) → None rows → None (map ofFrame rows)
+none-up [] h = tt
+none-up (a ∷ rows) h = (h .0, none-up rows (h .1))
+
+none-down : (rows : List (Row FrameRefusal)) → None (map ofFrame rows) → None rows
+none-down [] h = tt
+none-down (a ∷ rows) h = (h .0, none-down rows (h .1))
+
+-- the frame part's rows after the first
+first-open : (u : SetUp) (f : List ℕ) (r : FrameRefusal) → fitsOf u ≡ true → openOf u f ≡ Opened.Refused r → First (drop 1 (openTable u f)) r
+unfolding openTable row1 frameValuesOf
+first-open u f r a e = go (frame-number-exactly u f r .0 (ap (λ (o : Opened). getD (frameValuesOf o) 0 0) e))
+  where
+    go : First (openTable u f) r → First (drop 1 (openTable u f)) r
+    go (inl h) = absurd (false≢true (rw a at (h .1)))
+    go (inr h) = h .1
+
+-- test 2 in numbers
+pub whole-store : (n : ℕ) → storeFits most n ≡ true → n ≡ most * 8
+unfolding storeFits
+whole-store n e = eqb-true n (most * 8) e
+
+-- the first cause, row by row, as the code tests them
+module _ (u : SetUp) (rec : Record) (store out f : List ℕ) where
+  pub at-set-up : fitsOf u ≡ false → First (readTable u rec store out f) (OfFrame SetUpRange)
+  unfolding readTable row1
+  at-set-up a = inl (refl, rw a)
+
+  module _ (a : fitsOf u ≡ true) where
+    pub at-store : storeFits most (length store) ≡ false → First (readTable u rec store out f) StoreLength
+    unfolding readTable row1
+    at-store b = inr (rw a, inl (refl, rw b))
+
+    module _ (b : storeFits most (length store) ≡ true) where
+      pub at-output : outputFits most (length out) ≡ false → First (readTable u rec store out f) OutputLength
+      unfolding readTable row1
+      at-output c = inr (rw a, inr (rw b, inl (refl, rw c)))
+
+      module _ (c : outputFits most (length out) ≡ true) where
+        pub at-record : recordFollows most store rec ≡ false → First (readTable u rec store out f) BrokenRecord
+        unfolding readTable row1
+        at-record d = inr (rw a, inr (rw b, inr (rw c, inl (refl, rw d))))
+
+        module _ (d : recordFollows most store rec ≡ true) where
+          pub at-frame : (r : FrameRefusal) → openOf u f ≡ Opened.Refused r → First (readTable u rec store out f) (OfFrame r)
+          unfolding readTable row1
+          at-frame r e = inr (rw a, inr (rw b, inr (rw c, inr (rw d, first-up (drop 1 (openTable u f)) r (first-open u f r a e)))))
+
+          pub at-none : (x : Frame) → openOf u f ≡ Opened.Accepted x → (x ≡ frameOf u f) × None (readTable u rec store out f)
+          unfolding readTable row1 openTable
+          at-none x e =
+              let o = frame-accepted-exactly u f x .0 e in
+              (o .0, (rw a, (rw b, (rw c, (rw d, none-up (drop 1 (openTable u f)) (o .1 .1))))))
+
+-- one answer is not the other
+accepted-refused : (a : Report) (r : Refusal) → Accepted a ≡ Refused r → ⊥
+accepted-refused a r q = let z : _≡_ {A = ℕ} 0 1 = cc in omega arith
+
+-- what steps 1 to 5 make of a frame is what the call answers and leaves
+abbrev pub LeftBy : SetUp → Record → List ℕ → List ℕ → List ℕ → Type 0
+LeftBy u rec store out f =
+    let x = frameOf u f in
+    let d = doneBy x rec store f in
+    Read u rec store out f (Accepted (reportOf x (channelOf x rec) d)) (recordAfter x rec d) (storeAfter x store d) (outputAfter out d)
+
+module _ (u : SetUp) (rec : Record) (store out f : List ℕ) where
+  -- without a cause the frame opens
+  pub opened : None (readTable u rec store out f) → openOf u f ≡ Opened.Accepted (frameOf u f)
+  unfolding readTable openTable
+  opened n = frame-accepted-exactly u f (frameOf u f) .1 (refl, (n .0, none-down (drop 1 (openTable u f)) (n .1 .1 .1 .1)))
+
+  -- a call that is refused found a cause, and one that is accepted found none
+  pub found-cause : (r : Refusal) → answerOf u rec store out f ≡ Refused r → First (readTable u rec store out f) r
+  unfolding answerOf
+  found-cause r e = first-exactly Refused _ (λ s r q. cc) (λ r. accepted-refused _ r) (readTable u rec store out f) r .0 e
+
+  pub found-none : (a : Report) → answerOf u rec store out f ≡ Accepted a → None (readTable u rec store out f)
+  unfolding answerOf
+  found-none a e = none-exactly Refused _ (Accepted a) (λ r q. accepted-refused a r (sym q)) (readTable u rec store out f) .0 e .1
+
+  -- a refusal answers its case, and leaves record, store and output
+  pub refuses : (r : Refusal) (o : Outcome) → First (readTable u rec store out f) r → o ≡ record { answer = Refused r; after = rec }
+      → Read u rec store out f (o .answer) (o .after) store out
+  unfolding answerOf recordOf storeOf outputOf
+  refuses r o h e =
+      record {
+        answers = ap (λ (p : Outcome). p .answer) e ∙ sym (first-gives Refused _ (readTable u rec store out f) r h);
+        record-left = ap (λ (p : Outcome). p .after) e ∙ sym (first-gives (λ _. rec) _ (readTable u rec store out f) r h);
+        store-left = sym (first-gives (λ _. store) _ (readTable u rec store out f) r h);
+        output-left = sym (first-gives (λ _. out) _ (readTable u rec store out f) r h);
+      }
+
+  -- a call without a cause is what steps 1 to 5 make of it
+  module _ (x : Frame) (n : (x ≡ frameOf u f) × None (readTable u rec store out f)) where
+    pub accepts : (answer : Answer) (rec′ : Record) (store′ out′ : List ℕ) → ReadBy x rec store out f answer rec′ store′ out′
+        → Read u rec store out f answer rec′ store′ out′
+    unfolding answerOf recordOf storeOf outputOf
+    accepts answer rec′ store′ out′ b =
+        let t = rw (n .0) at b in
+        record {
+          answers = t .answers ∙ sym (none-gives Refused _ (readTable u rec store out f) (n .1));
+          record-left = t .record-left ∙ sym (none-gives (λ _. rec) _ (readTable u rec store out f) (n .1));
+          store-left = t .store-left ∙ sym (none-gives (λ _. store) _ (readTable u rec store out f) (n .1));
+          output-left = t .output-left ∙ sym (none-gives (λ _. out) _ (readTable u rec store out f) (n .1));
+        }
+
+    -- and what those may rely on
+    pub ready : Ready rec x f store out
+    unfolding readTable outputFits
+    ready =
+        let t = n .1 .1 in
+        let s = opened-sound u f (frameOf u f) (opened (n .1)) in
+        rw (n .0)
+        (record {
+          store-whole = whole-store (length store) (not-false _ (t .0));
+          output-room = leb-true (most + 2048) (length out) (not-false _ (t .1 .0));
+          follows = not-false _ (t .1 .1 .0);
+          inside = s .inside;
+          some = s .least;
+          few = s .most;
+          channel = s .channel;
+          points = s .pointer;
+        })
+
+  -- so that is what it answers and leaves
+  pub leaves : None (readTable u rec store out f) → LeftBy u rec store out f
+  leaves n =
+      accepts (frameOf u f) (refl, n) _ _ _ _ (record { answers = refl; record-left = refl; store-left = refl; output-left = refl })
