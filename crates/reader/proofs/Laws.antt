@@ -2,10 +2,11 @@
 -- Assumes nothing.
 use mathlib.Core.Path.{_≡_, refl, _∙_, sym, ap}
 use mathlib.Core.List.{List}
-use Prim.Native.Nat.{ℕ, _<_}
+use Prim.Native.Nat.{ℕ, zero, suc, _<_}
+use native.Mathlib.Numerals.{add-one}
 use native.Mathlib.Omega.{arith}
 use lib.Dec.{eqb}
-use lib.ListN.{getD}
+use lib.ListN.{getD, replicate}
 use Rattle.octets.specs.Pick.{pick}
 use Rattle.frame.specs.Opening.{frameOf}
 use Rattle.frame.specs.declared.opening.Refusal.the-variants.{SetUpRange, FrameLength, FrameCheck, FrameVersion, OtherSpacecraft, SecondaryHeader, NoData, OrderOrSegment, PointerPlace}
@@ -20,7 +21,7 @@ use Rattle.reader.specs.declared.reading.Refusal.the-variants.{OfFrame, 
 use Rattle.reader.specs.declared.reading.Report.{Report}
 use Rattle.reader.specs.Answers.{numberOf, valuesOf}
 use Rattle.reader.specs.Reading.{readTable, channelOf, doneBy, reportOf, answerOf, storeOf, Ready}
-use Rattle.reader.specs.Theorems.{Octets, Number-exactly, Accepted-exactly, Refused-untouched, Accepted-keeps, Others-apart, Few-enough, Walk-few}
+use Rattle.reader.specs.Theorems.{Octets, Number-exactly, Refused-zero, Accepted-exactly, Refused-untouched, Accepted-keeps, Others-apart, Few-enough, Walk-few}
 use Rattle.reader.proofs.AfterLaws.{store-kept, output-kept, channels-kept, octets-kept, other-part, other-channel, record-kept, done-few}
 use Rattle.reader.proofs.ReadLaws.{LeftBy, found-none, found-cause, leaves, ready, refuses}
 use Rattle.reader.proofs.WalkLaws.{walk-count}
@@ -123,3 +124,12 @@ others-apart u rec store out f a w e h n =
 pub few-enough : Few-enough
 few-enough u rec store out f a e =
     rw (told u rec store out f a e) at (done-few rec (frameOf u f) f store out (relied u rec store out f a e))
+
+zeros-all : (n i : ℕ) → _≡_ {A = ℕ} (getD (replicate n 0) i 0) 0
+zeros-all zero i = refl
+zeros-all (suc n) zero = refl
+zeros-all (suc n) (suc i) = zeros-all n i
+
+pub refused-zero : Refused-zero
+unfolding valuesOf
+refused-zero u rec store out f r i e = rw (e, add-one) (zeros-all 19 i)

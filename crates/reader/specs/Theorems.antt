@@ -31,6 +31,11 @@ abbrev pub Number-exactly : Type 0
 Number-exactly = (u : SetUp) (rec : Record) (store out f : List ℕ) (r : Refusal)
     → getD (valuesOf (answerOf u rec store out f)) 0 0 ≡ numberOf r ↔ First (readTable u rec store out f) r
 
+-- "In reading, every other returned value is zero"
+abbrev pub Refused-zero : Type 0
+Refused-zero = (u : SetUp) (rec : Record) (store out f : List ℕ) (r : Refusal) (i : ℕ)
+    → answerOf u rec store out f ≡ Refused r → getD (valuesOf (answerOf u rec store out f)) (i + 1) 0 ≡ 0
+
 -- a frame is accepted exactly when no cause holds
 abbrev pub Accepted-exactly : Type 0
 Accepted-exactly = (u : SetUp) (rec : Record) (store out f : List ℕ)

@@ -203,18 +203,18 @@ fn break_off(state: State, c: Course) -> Course
     }
 }
 
-fn disagreement(state: State, c: Course) -> Course
-    ensures { λ r. ⌜ r ≡ disagreedCourse state c ⌝ }
+fn disagreement(state: State, found: Course) -> Course
+    ensures { λ r. ⌜ r ≡ disagreedCourse state found ⌝ }
 {
-    let tally = c.tally;
-    let next = c.state;
+    let tally = found.tally;
+    let next = found.state;
     Course {
         tally,
         state: next,
         broken: broken_by(state),
         disagreement: 1,
-        foreign: c.foreign,
-        oversize: c.oversize,
+        foreign: found.foreign,
+        oversize: found.oversize,
     }
 }
 
