@@ -1,3 +1,4 @@
 pub mod ChainLaws
+pub mod ChainTurns
 pub mod HeaderLaws
 pub mod Laws

@@ -16,9 +16,9 @@ pub struct Laid {
 
 // The last octets of an idle packet that was begun in an earlier frame, as many as fit; answers how many were placed.
 fn lay_left_over(field: &mut [u8], left_over: usize) -> usize
-    requires { ⌜ left_over ≤ 6 ⌝ }
-    ensures placed { λ r. ⌜ r ≡ min left_over (length (now (field .entry))) ⌝ }
-    ensures field { λ _. ⌜ now (field .exit) ≡ laid (now (field .entry)) 0 (leftPart (length (now (field .entry))) left_over) ⌝ }
+    requires { ⌜ «left_over» ≤ 6 ⌝ }
+    ensures placed { λ r. ⌜ r ≡ min «left_over» (length (now (field .entry))) ⌝ }
+    ensures field { λ _. ⌜ now (field .exit) ≡ laid (now (field .entry)) 0 (leftPart (length (now (field .entry))) «left_over») ⌝ }
 {
     let idle = SHORT_IDLE;
     let n = octets::least(left_over, field.len());
@@ -62,9 +62,9 @@ fn lay_filler(field: &mut [u8], at: usize) -> usize
 
 // Lays one data field: first what was left over, then the run from the offset, then the filler.
 pub fn lay(field: &mut [u8], run: &[u8], offset: usize, left_over: usize) -> Laid
-    requires { ⌜ (left_over ≤ 6) × (offset ≤ length (now run)) × (length (now field) ≤ 2048) ⌝ }
-    ensures goes { λ r. ⌜ (r .offset ≡ offset + length (runPart (length (now (field .entry))) (now (run .entry)) offset left_over)) × (r .«left_over» ≡ leftOverAfter (length (now (field .entry))) (now (run .entry)) offset left_over) ⌝ }
-    ensures field { λ _. ⌜ now (field .exit) ≡ fieldOf (length (now (field .entry))) (now (run .entry)) offset left_over ⌝ }
+    requires { ⌜ («left_over» ≤ 6) × (offset ≤ length (now run)) × (length (now field) ≤ 2048) ⌝ }
+    ensures goes { λ r. ⌜ (r .offset ≡ offset + length (runPart (length (now (field .entry))) (now (run .entry)) offset «left_over»)) × (r .«left_over» ≡ leftOverAfter (length (now (field .entry))) (now (run .entry)) offset «left_over») ⌝ }
+    ensures field { λ _. ⌜ now (field .exit) ≡ fieldOf (length (now (field .entry))) (now (run .entry)) offset «left_over» ⌝ }
 {
     let placed = lay_left_over(field, left_over);
     let n = octets::least(run.len() - offset, field.len() - placed);
@@ -80,8 +80,8 @@ pub fn lay(field: &mut [u8], run: &[u8], offset: usize, left_over: usize) -> Lai
 
 // The pointer of such a field of d octets, from the distance to the first packet boundary at or after the offset.
 pub fn pointer(d: usize, to_start: usize, left_over: usize, nothing: bool) -> usize
-    requires { ⌜ (left_over ≤ 6) × (to_start ≤ 65536) ⌝ }
-    ensures { λ r. ⌜ r ≡ pointerOf d to_start left_over nothing ⌝ }
+    requires { ⌜ («left_over» ≤ 6) × («to_start» ≤ 65536) ⌝ }
+    ensures { λ r. ⌜ r ≡ pointerOf d «to_start» «left_over» nothing ⌝ }
 {
     if nothing {
         return frame::Header::IDLE;

@@ -68,7 +68,7 @@ fn refused(refusal: Refusal, place: Place) -> Written
 
 // Test 24.
 fn bad_left_over(run: usize, offset: usize, left_over: usize) -> bool
-    ensures { λ r. ⌜ r ≡ row24 run offset left_over ⌝ }
+    ensures { λ r. ⌜ r ≡ row24 run offset «left_over» ⌝ }
 {
     if 6 < left_over {
         return true;

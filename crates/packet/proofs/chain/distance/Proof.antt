@@ -6,7 +6,7 @@ use native.Mathlib.Omega.{arith}
 use lib.ListN.{drop}
 use borrow.Author.Needs.{needs}
 use Rattle.packet.specs.Chain.{frontOf}
-use Rattle.packet.proofs.ChainLaws.{looked, Passed, packet-fits, passed-start, passed-more, passed-front, passed-end}
+use Rattle.packet.proofs.ChainTurns.{looked, Passed, packet-fits, passed-start, passed-more, passed-front, passed-end}
 use Rattle.packet.proofs.chain.distance.Statement.{statement}
 use Rattle.packet.proofs.chain.distance.Tie as tie
 

@@ -1,6 +1,6 @@
 -- `packet::front` meets its contract: what the size and the test say of the front.
 -- Assumes nothing.
-use Rattle.packet.proofs.ChainLaws.{front-waits, front-foreign, front-whole, front-cut}
+use Rattle.packet.proofs.ChainTurns.{front-waits, front-foreign, front-whole, front-cut}
 use borrow.Author.Needs.{needs}
 use Rattle.packet.proofs.chain.front.Statement.{statement}
 use Rattle.packet.proofs.chain.front.Tie as tie
@@ -24,10 +24,10 @@ returns-2 : tie.Need-returns-2
 returns-2 c = front-foreign _ (cc)
 
 returns-3 : tie.Need-returns-3
-returns-3 c = front-whole _ _ (cc) (c .if1 .taken)
+returns-3 c = front-whole _ _ (cc) (search needs)
 
 returns-4 : tie.Need-returns-4
-returns-4 c = front-cut _ (c .before .before .n .given .0 .0) (cc) (c .if1 .left)
+returns-4 c = front-cut _ (c .before .before .n .given .0 .0) (cc) (search needs)
 
 pub front-spec : {M : Type 1} → statement M
 front-spec =

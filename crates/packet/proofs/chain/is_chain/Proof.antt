@@ -6,7 +6,7 @@ use native.Mathlib.Omega.{arith}
 use lib.ListN.{length, drop}
 use borrow.Author.Needs.{needs}
 use Rattle.packet.specs.Chain.{frontOf}
-use Rattle.packet.proofs.ChainLaws.{looked, Tested, packet-fits, tested-start, tested-more, tested-stop, tested-end}
+use Rattle.packet.proofs.ChainTurns.{looked, Tested, packet-fits, tested-start, tested-more, tested-stop, tested-end}
 use Rattle.packet.proofs.chain.is_chain.Statement.{statement}
 use Rattle.packet.proofs.chain.is_chain.Tie as tie
 

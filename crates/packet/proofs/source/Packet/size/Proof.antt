@@ -19,7 +19,7 @@ returns-2 : tie.Need-returns-2
 returns-2 c = sym (size-in-words _ .other (omega arith) (λ v. c .if2 .taken (omega (arith, version-is (c .before .before .before .before .args .seen .now) (omega (arith, c .before .octet .ensures .0))))))
 
 returns-3 : tie.Need-returns-3
-returns-3 c = sym (size-in-words _ .few (omega arith) (omega (arith, version-is (c .before .before .before .before .before .args .seen .now) (omega (arith, c .before .before .octet .ensures .0)))) (c .if3 .taken))
+returns-3 c = sym (size-in-words _ .few (omega arith) (omega (arith, version-is (c .before .before .before .before .before .args .seen .now) (omega (arith, c .before .before .octet .ensures .0)))) (search needs))
 
 total-requires : tie.Need-total-requires
 total-requires c κs = search needs

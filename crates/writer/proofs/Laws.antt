@@ -1,0 +1,109 @@
+-- The theorems of specs/Theorems.antt.
+-- Assumes nothing.
+use mathlib.Core.Path.{_≡_, refl, _∙_, sym, ap}
+use mathlib.Core.Bool.{false}
+use mathlib.Core.List.{List}
+use mathlib.Core.Logic.{_⊎_, inl, inr}
+use Prim.Native.Nat.{ℕ, _+_, _≤_}
+use native.Mathlib.Omega.{arith}
+use lib.ListN.{length, take, drop}
+use Rattle.frame.specs.Closing.{closeSize}
+use Rattle.frame.specs.Opening.{openOf}
+use Rattle.frame.specs.declared.set_up.SetUp.{SetUp}
+use Rattle.frame.proofs.ClosingLaws.{sizes}
+use Rattle.frame.proofs.Laws.{closed-opens}
+use Rattle.frame.proofs.TableLaws.{first-exactly, first-gives, none-exactly, none-gives, made}
+use Rattle.packet.specs.Chain.{distanceOf}
+use Rattle.writer.specs.declared.writing.Answer.the-variants.{Refused, Frame}
+use Rattle.writer.specs.declared.writing.Place.{Place}
+use Rattle.writer.specs.declared.writing.Refusal.{Refusal}
+use Rattle.writer.specs.Answers.{numberOf, answerNumber, valuesOf}
+use Rattle.writer.specs.Laying.{leftOverAfter, nothingOf, runPart}
+use Rattle.writer.specs.Theorems.{Number-exactly, Written-exactly, Refused-untouched, Written-opens, Laid-well, Goes-on}
+use Rattle.writer.specs.Writing.{row24, writeTable, answerOf, nextOf, outputOf, nextPlace, frameWritten, laidField, laidPointer, Ready}
+use Rattle.writer.proofs.FieldLaws.{points-well, nothing-exactly, left-then}
+use Rattle.writer.proofs.FrameLaws.{around, closed-around}
+use Rattle.writer.proofs.LayingLaws.{length-field, length-run}
+use Rattle.writer.proofs.NumberLaws.{case-back, number-one}
+use Rattle.writer.proofs.WritingSteps.{at-border, none-left, border-passes, passed, passing}
+
+pub number-exactly : Number-exactly
+unfolding answerOf valuesOf
+number-exactly u channel p w run out r =
+    let t = writeTable u channel p run out in
+    rw (made answerNumber Refused Frame t) (first-exactly numberOf 0 number-one (λ r e. omega (arith, case-back r .1)) t r)
+
+-- a frame is not refused
+not-refused : (r : Refusal) → Frame ≡ Refused r → ⊥
+not-refused r q = let z : _≡_ {A = ℕ} 0 1 = cc in omega arith
+
+pub written-exactly : Written-exactly
+unfolding answerOf
+written-exactly u channel p run out =
+    let n = none-exactly Refused Frame Frame (λ r q. not-refused r (sym q)) (writeTable u channel p run out) in
+    (λ e. n .0 e .1, λ h. n .1 (refl, h))
+
+pub refused-untouched : Refused-untouched
+unfolding answerOf nextOf outputOf
+refused-untouched u channel p w run out r e =
+    let t = writeTable u channel p run out in
+    let f = first-exactly Refused Frame (λ s r q. cc) not-refused t r .0 e in
+    (first-gives (λ _. p) (nextPlace u p w run) t r f, first-gives (λ _. out) (frameWritten u channel p w run) t r f)
+
+module _ (u : SetUp) (channel : ℕ) (p : Place) (run out : List ℕ) (e : answerOf u channel p run out ≡ Frame) where
+  tested : Ready u channel p run out × (row24 (length run) (p .offset) (p .«left_over») ≡ false)
+  tested = passing u channel p run out (written-exactly u channel p run out .0 e)
+
+pub written-opens : Written-opens
+unfolding frameWritten
+written-opens u channel p w run out e hm hk hw =
+    let r = tested u channel p run out e .0 in
+    let D = closeSize u w in
+    let field = laidField u w run p in
+    let q = laidPointer u w run p in
+    let o = around D out field in
+    let c = closed-around u channel (p .master) (p .count) w q out field (r .fits) (r .channel-fits) (r .output-whole)
+    (length-field D run (p .offset) (p .«left_over»)) in
+    let t = closed-opens u channel (p .master) (p .count) w q o (c .0) hm hk hw
+    (points-well D (distanceOf run (p .offset)) (p .«left_over») (nothingOf run (p .offset) (p .«left_over»))) in
+    (ap (openOf u) (sym (c .2)) ∙ t .0, ap (λ (l : List ℕ). take D (drop 6 l)) (sym (c .2)) ∙ t .1 ∙ c .1)
+
+pub laid-well : Laid-well
+laid-well u channel p w run out e =
+    let r = tested u channel p run out e .0 in
+    let D = closeSize u w in
+    let some = sizes u w (r .fits) .1 in
+    record {
+      some = some;
+      filled = length-field D run (p .offset) (p .«left_over»);
+      points = points-well D (distanceOf run (p .offset)) (p .«left_over») (nothingOf run (p .offset) (p .«left_over»));
+      nothing = nothing-exactly D run (p .offset) (p .«left_over») some (r .left-fits) (r .inside);
+    }
+
+-- the left-over that is handed on stands at the start or the end of the run
+handed-passes : (end offset left n left′ : ℕ) → row24 end offset left ≡ false → left′ ≤ 6
+    → (left′ ≡ 0) ⊎ (((left ≡ 0 → ⊥) × (n ≡ 0)) ⊎ (offset + n ≡ end)) → row24 end (offset + n) left′ ≡ false
+handed-passes end offset left n left′ e h (inl z) = sym (none-left end (offset + n) left′ h z)
+handed-passes end offset left n left′ e h (inr (inl k)) =
+    let same : offset + n ≡ offset = omega (arith, k .1) in
+    rw same (border-passes end offset left′ h (at-border end offset left e (k .0)))
+handed-passes end offset left n left′ e h (inr (inr k)) = border-passes end (offset + n) left′ h (inr k)
+
+pub goes-on : Goes-on
+unfolding nextPlace answerOf
+goes-on u channel p w run out e =
+    let t = tested u channel p run out e in
+    let r = t .0 in
+    let D = closeSize u w in
+    let n : ℕ = length (runPart D run (p .offset) (p .«left_over»)) in
+    let l = left-then D run (p .offset) (p .«left_over») (sizes u w (r .fits) .1) (r .left-fits) (r .inside) in
+    let inside : p .offset + n ≤ length run = omega (arith, r .inside, length-run D run (p .offset) (p .«left_over»)) in
+    record {
+      next-passes = none-gives Refused Frame (writeTable u channel (nextPlace u p w run) run out)
+          (passed u channel (nextPlace u p w run) run out (r .fits) (r .channel-fits) (r .run-fits) (r .chain) inside
+          (handed-passes (length run) (p .offset) (p .«left_over») n (leftOverAfter D run (p .offset) (p .«left_over»)) (t .1) (l .0) (l .1))
+          (r .output-whole));
+      not-back = omega arith;
+      inside = inside;
+      few-left = l .0;
+    }
