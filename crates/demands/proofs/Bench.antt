@@ -1,0 +1,204 @@
+-- B1 to B8, computed from the definitions of reader and writer.
+-- Assumes nothing.
+use mathlib.Core.Path.{_≡_, refl, _∙_, sym, ap}
+use mathlib.Core.Bool.{Bool, true, false}
+use mathlib.Core.List.{List, [], _∷_, _++_}
+use Prim.Native.Nat.{ℕ, _+_, _*_, _/_, _≤_}
+use native.Mathlib.Omega.{arith}
+use borrow.Author.Tests.{le-leb}
+use lib.ListN.{length, getD, take, set, replicate}
+use Rattle.octets.specs.Laid.{laid}
+use Rattle.octets.proofs.Laws.{length-laid}
+use Rattle.octets.proofs.Runs.{laid-nil}
+use Rattle.octets.specs.Numbers.{numberAt, bitsAt, octetsOf, packed}
+use Rattle.octets.specs.Pick.{pick}
+use Rattle.packet.specs.Chain.{wholeIn, frontOf, chainIn, chainOf, distanceIn, distanceOf}
+use Rattle.packet.specs.Size.{idleOf, sizeOf, most}
+use Rattle.frame.specs.Closing.{row20, row25, flaggedBy, wordOctets, headerOctets, closeSize, withCheck, frameAround}
+use Rattle.frame.specs.Counts.{after, gapOf}
+use Rattle.frame.specs.Header.{headerOf}
+use Rattle.frame.specs.Opening.{row1, row5, row6, row7, row8, row9, row10, row11, row12, secondarySize, dataSize, wordOf, frameOf, openTable}
+use Rattle.frame.specs.SetUp.{fitsOf}
+use Rattle.frame.specs.Table.{firstCause}
+use Rattle.channel.specs.Busy.{busyState}
+use Rattle.channel.specs.Rules.{recordFollows, allFollow, channelFollows, stateFollows, hunts, judged}
+use Rattle.channel.specs.State.{freshChannel, freshRecord}
+use Rattle.channel.specs.Store.{storeFits, outputFits, partOf, withPart}
+use Rattle.channel.proofs.Laws.{part-inside, part-own, part-length, fresh-follows}
+use Rattle.channel.specs.declared.state.Channel.{Channel}
+use Rattle.channel.specs.declared.state.Record.{Record}
+use Rattle.channel.specs.declared.state.State.{State}
+use Rattle.channel.specs.declared.state.State.the-variants.{Hunting, Gathering}
+use Rattle.reader.proofs.Laws.{few-enough}
+use Rattle.reader.specs.Answers as reading
+use Rattle.reader.specs.Reading as read
+use Rattle.reader.specs.Steps.{stepsOf, carriesNone, gapFor, hunted, endedBy, courseOf, resumed, gathered, agrees, agreesBy, calledAt}
+use Rattle.reader.specs.Walk.{walkOf, turns, turn, seenOf, front, cutOf, talliedAll, tallied, handed, handedAll}
+use Rattle.writer.specs.Answers as writing
+use Rattle.writer.specs.Laying.{idlePacket, leftPart, runPart, placedPart, fillerOf, leftAfter, fieldOf, leftOverAfter, pointerOf, nothingOf}
+use Rattle.writer.specs.Writing as write
+use Rattle.demands.specs.Bench.{bench, placeOf, run, frame1, frame2, frame3, written, told, values, benchOf, number, benchTable, All-hold, At-most-292, Bench}
+
+-- the writings
+b1 : (w : List ℕ) → length w ≡ 20 → written (placeOf 0 9 4) run w ≡ 0 ∷ 8 ∷ 1 ∷ 10 ∷ 5 ∷ frame1
+unfolding write.answerOf write.nextOf write.outputOf write.writeTable write.nextPlace write.frameWritten write.row21 write.row22 write.row23 write.row24 row1 fitsOf row20 row25 firstCause chainOf chainIn frontOf wholeIn sizeOf bitsAt numberAt distanceOf distanceIn flaggedBy wordOctets headerOctets closeSize withCheck frameAround packed octetsOf after idlePacket leftPart runPart placedPart fillerOf leftAfter fieldOf leftOverAfter pointerOf nothingOf writing.valuesOf
+b1 w h = rw h
+
+b2 : (w : List ℕ) → length w ≡ 20 → written (placeOf 1 10 5) [] w ≡ 0 ∷ 0 ∷ 0 ∷ 11 ∷ 6 ∷ frame2
+unfolding write.answerOf write.nextOf write.outputOf write.writeTable write.nextPlace write.frameWritten write.row21 write.row22 write.row23 write.row24 row1 fitsOf row20 row25 firstCause chainOf chainIn frontOf wholeIn sizeOf bitsAt numberAt distanceOf distanceIn flaggedBy wordOctets headerOctets closeSize withCheck frameAround packed octetsOf after idlePacket leftPart runPart placedPart fillerOf leftAfter fieldOf leftOverAfter pointerOf nothingOf writing.valuesOf
+b2 w h = rw h
+
+b3 : (w : List ℕ) → length w ≡ 20 → written (placeOf 0 11 6) [] w ≡ 0 ∷ 0 ∷ 0 ∷ 12 ∷ 7 ∷ frame3
+unfolding write.answerOf write.nextOf write.outputOf write.writeTable write.nextPlace write.frameWritten write.row21 write.row22 write.row23 write.row24 row1 fitsOf row20 row25 firstCause chainOf chainIn frontOf wholeIn sizeOf bitsAt numberAt distanceOf distanceIn flaggedBy wordOctets headerOctets closeSize withCheck frameAround packed octetsOf after idlePacket leftPart runPart placedPart fillerOf leftAfter fieldOf leftOverAfter pointerOf nothingOf writing.valuesOf
+b3 w h = rw h
+
+-- what passes tests 2, 3 and 4
+pub record Passes (rec : Record) (store out : List ℕ) : Type 0 where
+  pub store-fits : storeFits most (length store) ≡ true
+  pub output-fits : outputFits most (length out) ≡ true
+  pub follows : recordFollows most store rec ≡ true
+
+-- the first reading
+told1 : (store out : List ℕ) → Passes freshRecord store out → told freshRecord store out frame1 ≡ values 1 9 4 0 0 1 0 0
+unfolding read.answerOf read.readTable read.kindOf read.reportOf row1 fitsOf openTable row5 row6 row7 row8 row9 row10 row11 row12 secondarySize dataSize wordOf frameOf headerOf firstCause bitsAt numberAt stepsOf carriesNone gapFor gapOf hunted endedBy courseOf walkOf turns turn seenOf front cutOf sizeOf idleOf talliedAll tallied reading.valuesOf resumed
+told1 store out p = rw (p .store-fits, p .output-fits, p .follows)
+
+-- what it leaves: channel 3 heard, with the first six octets of a filler packet held
+channelAfter : ℕ → State → Channel
+channelAfter count state = record { heard = true; last = record { 0 = count }; state = state }
+
+recordAfter : ℕ → State → Record
+recordAfter count state = record { channels = set (replicate 8 freshChannel) 3 (channelAfter count state) }
+
+held : List ℕ
+held = 0x07 ∷ 0xFF ∷ 0xC0 ∷ 0x00 ∷ 0x00 ∷ 0x00 ∷ []
+
+partAfter : List ℕ → List ℕ
+partAfter store = laid (partOf most 3 store) 0 held
+
+storeAfter : List ℕ → List ℕ
+storeAfter store = withPart most 3 store (partAfter store)
+
+record1 : (store out : List ℕ) → Passes freshRecord store out
+    → read.recordOf bench freshRecord store out frame1 ≡ recordAfter 4 (Gathering 6)
+unfolding read.recordOf read.readTable read.recordAfter row1 fitsOf openTable row5 row6 row7 row8 row9 row10 row11 row12 secondarySize dataSize wordOf frameOf headerOf firstCause bitsAt numberAt stepsOf carriesNone gapFor gapOf hunted endedBy courseOf walkOf turns turn seenOf front cutOf sizeOf idleOf talliedAll tallied resumed recordAfter channelAfter
+record1 store out p = rw (p .store-fits, p .output-fits, p .follows)
+
+store1 : (store out : List ℕ) → Passes freshRecord store out → read.storeOf bench freshRecord store out frame1 ≡ storeAfter store
+unfolding read.storeOf read.readTable read.storeAfter row1 fitsOf openTable row5 row6 row7 row8 row9 row10 row11 row12 secondarySize dataSize wordOf frameOf headerOf firstCause bitsAt numberAt stepsOf carriesNone gapFor gapOf hunted endedBy courseOf walkOf turns turn seenOf front cutOf sizeOf idleOf talliedAll tallied resumed storeAfter partAfter held
+store1 store out p = rw (p .store-fits, p .output-fits, p .follows)
+
+output1 : (store out : List ℕ) → Passes freshRecord store out → take 8 (read.outputOf bench freshRecord store out frame1) ≡ run
+unfolding read.outputOf read.readTable read.outputAfter row1 fitsOf openTable row5 row6 row7 row8 row9 row10 row11 row12 secondarySize dataSize wordOf frameOf headerOf firstCause bitsAt numberAt stepsOf carriesNone gapFor gapOf hunted endedBy courseOf walkOf turns turn seenOf front cutOf sizeOf idleOf talliedAll tallied handed handedAll resumed laid
+output1 store out p = rw (p .store-fits, p .output-fits, p .follows)
+
+module _ (store : List ℕ) (h : length store ≡ most * 8) where
+  part-length-after : length (partAfter store) ≡ most
+  unfolding partAfter held
+  part-length-after =
+      let l : length (partOf most 3 store) ≡ most = part-inside most 3 store h (omega arith) in
+      length-laid (partOf most 3 store) 0 held (omega arith) ∙ l
+
+  held-there : take 6 (partOf most 3 (storeAfter store)) ≡ held
+  unfolding storeAfter partAfter held laid
+  held-there = rw (part-own most 3 store (partAfter store) h (omega arith) part-length-after)
+
+  store-after-length : length (storeAfter store) ≡ most * 8
+  unfolding storeAfter
+  store-after-length = part-length most 3 store (partAfter store) h (omega arith) part-length-after
+
+  -- the record and the store after the first reading pass, and after the second
+  passes-after : (out : List ℕ) → outputFits most (length out) ≡ true → Passes (recordAfter 4 (Gathering 6)) (storeAfter store) out
+  unfolding recordAfter channelAfter held storeFits recordFollows allFollow channelFollows stateFollows hunts judged sizeOf bitsAt numberAt
+  passes-after out o = record {
+      store-fits = rw store-after-length;
+      output-fits = o;
+      follows = rw held-there }
+
+  told2 : (out : List ℕ) → outputFits most (length out) ≡ true
+      → told (recordAfter 4 (Gathering 6)) (storeAfter store) out frame2 ≡ values 1 10 5 1 0 0 2 0
+  unfolding read.answerOf read.readTable read.kindOf read.reportOf row1 fitsOf openTable row5 row6 row7 row8 row9 row10 row11 row12 secondarySize dataSize wordOf frameOf headerOf firstCause bitsAt numberAt stepsOf carriesNone gapFor gapOf hunted endedBy courseOf walkOf turns turn seenOf front cutOf sizeOf idleOf talliedAll tallied reading.valuesOf resumed gathered agrees agreesBy calledAt held recordAfter channelAfter
+  told2 out o =
+      let p = passes-after out o in
+      rw (p .store-fits, p .output-fits, p .follows, held-there)
+
+  record2 : (out : List ℕ) → outputFits most (length out) ≡ true
+      → read.recordOf bench (recordAfter 4 (Gathering 6)) (storeAfter store) out frame2 ≡ recordAfter 5 (Gathering 0)
+  unfolding read.recordOf read.readTable read.recordAfter row1 fitsOf openTable row5 row6 row7 row8 row9 row10 row11 row12 secondarySize dataSize wordOf frameOf headerOf firstCause bitsAt numberAt stepsOf carriesNone gapFor gapOf hunted endedBy courseOf walkOf turns turn seenOf front cutOf sizeOf idleOf talliedAll tallied resumed gathered agrees agreesBy calledAt held recordAfter channelAfter
+  record2 out o =
+      let p = passes-after out o in
+      rw (p .store-fits, p .output-fits, p .follows, held-there)
+
+  store2 : (out : List ℕ) → outputFits most (length out) ≡ true
+      → read.storeOf bench (recordAfter 4 (Gathering 6)) (storeAfter store) out frame2
+        ≡ withPart most 3 (storeAfter store) (laid (partOf most 3 (storeAfter store)) 0 [])
+  unfolding read.storeOf read.readTable read.storeAfter row1 fitsOf openTable row5 row6 row7 row8 row9 row10 row11 row12 secondarySize dataSize wordOf frameOf headerOf firstCause bitsAt numberAt stepsOf carriesNone gapFor gapOf hunted endedBy courseOf walkOf turns turn seenOf front cutOf sizeOf idleOf talliedAll tallied resumed gathered agrees agreesBy calledAt held recordAfter channelAfter
+  store2 out o =
+      let p = passes-after out o in
+      rw (p .store-fits, p .output-fits, p .follows, held-there)
+
+  store2-length : (out : List ℕ) → outputFits most (length out) ≡ true
+      → length (read.storeOf bench (recordAfter 4 (Gathering 6)) (storeAfter store) out frame2) ≡ most * 8
+  store2-length out o =
+      let s : List ℕ = storeAfter store in
+      let l : length (partOf most 3 s) ≡ most = part-inside most 3 s store-after-length (omega arith) in
+      ap length (store2 out o)
+      ∙ part-length most 3 s (laid (partOf most 3 s) 0 []) store-after-length (omega arith) (ap length (laid-nil (partOf most 3 s) 0) ∙ l)
+
+  -- the third reading, with B2 and without
+  told3 : (out : List ℕ) → outputFits most (length out) ≡ true → told (recordAfter 4 (Gathering 6)) (storeAfter store) out frame3 ≡ values 2 11 6 2046 1 0 0 1
+  unfolding read.answerOf read.readTable read.kindOf read.reportOf row1 fitsOf openTable row5 row6 row7 row8 row9 row10 row11 row12 secondarySize dataSize wordOf frameOf headerOf firstCause bitsAt numberAt stepsOf carriesNone gapFor gapOf hunted endedBy courseOf walkOf turns turn seenOf front cutOf sizeOf idleOf talliedAll tallied reading.valuesOf resumed recordAfter channelAfter busyState
+  told3 out o =
+      let p = passes-after out o in
+      rw (p .store-fits, p .output-fits, p .follows)
+
+told3-behind : (store out : List ℕ) → length store ≡ most * 8 → outputFits most (length out) ≡ true
+    → told (recordAfter 5 (Gathering 0)) store out frame3 ≡ values 2 11 6 2046 0 0 0 0
+unfolding read.answerOf read.readTable read.kindOf read.reportOf row1 fitsOf openTable row5 row6 row7 row8 row9 row10 row11 row12 secondarySize dataSize wordOf frameOf headerOf firstCause bitsAt numberAt stepsOf carriesNone gapFor gapOf hunted endedBy courseOf walkOf turns turn seenOf front cutOf sizeOf idleOf talliedAll tallied reading.valuesOf resumed recordAfter channelAfter busyState storeFits recordFollows allFollow channelFollows stateFollows hunts judged
+told3-behind store out h o = rw (h, o)
+
+-- B6 and B7
+pointed : (store out : List ℕ) → Passes freshRecord store out
+    → (number bench freshRecord store out (set frame1 5 14) ≡ 12 ∷ []) × (number bench freshRecord store out (set frame1 5 13) ≡ 0 ∷ [])
+unfolding read.answerOf read.readTable read.kindOf read.reportOf row1 fitsOf openTable row5 row6 row7 row8 row9 row10 row11 row12 secondarySize dataSize wordOf frameOf headerOf firstCause bitsAt numberAt stepsOf carriesNone gapFor gapOf hunted endedBy courseOf walkOf turns turn seenOf front cutOf sizeOf idleOf talliedAll tallied reading.valuesOf resumed
+pointed store out p = (rw (p .store-fits, p .output-fits, p .follows), rw (p .store-fits, p .output-fits, p .follows))
+
+outside : (store out f : List ℕ) → (number (benchOf 12) freshRecord store out f ≡ 1 ∷ []) × (number (benchOf 2049) freshRecord store out f ≡ 1 ∷ [])
+unfolding read.answerOf read.readTable read.kindOf read.reportOf row1 fitsOf openTable row5 row6 row7 row8 row9 row10 row11 row12 secondarySize dataSize wordOf frameOf headerOf firstCause bitsAt numberAt stepsOf carriesNone gapFor gapOf hunted endedBy courseOf walkOf turns turn seenOf front cutOf sizeOf idleOf talliedAll tallied reading.valuesOf resumed
+outside store out f = (refl, refl)
+
+b5 : gapOf 1 254 ∷ [] ≡ 2 ∷ []
+unfolding gapOf
+b5 = refl
+
+output-passes : (out : List ℕ) → 6144 ≤ length out → outputFits most (length out) ≡ true
+unfolding outputFits
+output-passes out h = le-leb 6144 (length out) h
+
+fresh-passes : (store out : List ℕ) → length store ≡ 32768 → 6144 ≤ length out → Passes freshRecord store out
+unfolding storeFits
+fresh-passes store out h o =
+    record { store-fits = rw h; output-fits = output-passes out o; follows = fresh-follows most store }
+
+table : (store out₁ out₂ out₃ w f : List ℕ) → length store ≡ 32768 → 6144 ≤ length out₁ → 6144 ≤ length out₂ → 6144 ≤ length out₃
+    → length w ≡ 20 → All-hold (benchTable store out₁ out₂ out₃ w f)
+table store out₁ out₂ out₃ w f h o₁ o₂ o₃ k =
+    let p = fresh-passes store out₁ h o₁ in
+    let q₂ = output-passes out₂ o₂ in
+    let q₃ = output-passes out₃ o₃ in
+    let r₁ = record1 store out₁ p in
+    let s₁ = store1 store out₁ p in
+    (b1 w k, (b2 w k, (b3 w k, (told1 store out₁ p, (output1 store out₁ p,
+    (rw (r₁, s₁) (told2 store h out₂ q₂),
+    (rw (r₁, s₁, record2 store h out₂ q₂) (told3-behind _ out₃ (store2-length store h out₂ q₂) q₃),
+    (rw (r₁, s₁) (told3 store h out₃ q₃),
+    (b5, (pointed store out₁ p .0, (pointed store out₁ p .1, (outside store out₁ f .0, (outside store out₁ f .1, tt)))))))))))))
+
+-- B8, by the bound on every accepted frame
+at-most-292 : At-most-292
+at-most-292 u rec store out f a e d =
+    let b : (frameOf u f .size + 6) / 7 ≡ 292 = rw d in
+    omega (arith, few-enough u rec store out f a e)
+
+pub bench-holds : Bench
+bench-holds = (table, at-most-292)
