@@ -119,10 +119,12 @@ lowest-busy (c ∷ cs) = step (lowest-busy cs) (busyChannel c) refl
         record {
           none-below = λ v h. absurd (omega arith);
           busy-there = λ h. rw z e;
-          in-range = omega arith }
+          in-range = omega arith;
+        }
     step r false e =
         let z : lowestOf (c ∷ cs) ≡ suc (lowestOf cs) = rw (lowest-cons c cs, e) in
         record {
           none-below = elim [ zero ↦ λ h. e | suc v ↦ λ h. r .none-below v (omega arith) ];
           busy-there = λ h. rw z (r .busy-there (omega arith));
-          in-range = omega (arith, r .in-range) }
+          in-range = omega (arith, r .in-range);
+        }

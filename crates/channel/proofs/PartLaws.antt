@@ -49,8 +49,10 @@ part-apart limit v w store part e h k l n = go (decLt w v)
   where
     i : limit * v + limit ≤ limit * 8
     i = apart limit h
+
     behind : List ℕ
     behind = drop (limit * v + limit) store
+
     go : Dec (w < v) → take limit (drop (limit * w) (take (limit * v) store ++ part ++ behind)) ≡ take limit (drop (limit * w) store)
     go (yes less) =
         rw append-assoc

@@ -84,14 +84,15 @@ fresh-follows limit store = refl
 -- from channel number w on: all follow exactly when each does
 each-from : (limit : ℕ) (store : List ℕ) (w : ℕ) (cs : List Channel)
     → allFollow limit store w cs ≡ true
-      ↔ ((v : ℕ) → v < length cs → channelFollows limit (partOf limit (w + v) store) (getD cs v freshChannel) ≡ true)
+    ↔ ((v : ℕ) → v < length cs → channelFollows limit (partOf limit (w + v) store) (getD cs v freshChannel) ≡ true)
 unfolding allFollow
 each-from limit store w [] = (λ e v h. absurd (omega arith), λ f. refl)
 each-from limit store w (c ∷ cs) =
     let rest = each-from limit store (suc w) cs in (
       λ e. let t = both _ _ e in elim [
-        zero ↦ λ h. rw add-zero (t .0)
-      | suc v ↦ λ h. rw (add-suc w v, ← suc-add w v) (rest .0 (t .1) v (omega arith)) ],
+        | zero ↦ λ h. rw add-zero (t .0)
+        | suc v ↦ λ h. rw (add-suc w v, ← suc-add w v) (rest .0 (t .1) v (omega arith))
+      ],
       λ f. and (rw add-zero at (f 0 (omega arith))) (rest .1 (λ v h. rw (suc-add w v, ← add-suc w v) (f (suc v) (omega arith)))),
     )
 

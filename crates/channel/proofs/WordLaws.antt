@@ -31,17 +31,21 @@ held limit k p e = first (ℕ-discrete k 0)
   where
     w : Words p
     w = size-in-words p
+
     n : ℕ
     n = totalOf p
+
     third : 1 ≤ k → versionOf p ≡ 0 → Dec (k < 6) → judged limit k (sizeOf p) ≡ true ↔ Held limit k p
     third h v (yes l) = (λ t. (λ i. v, λ i. absurd (omega arith)), λ r. rw (w .few (omega arith) v (omega arith)))
     third h v (no l) = rw (w .six (omega arith) v) (
-        λ t. let u = both (ltb k n) (leb n limit) t in (λ i. v, λ i. (ltb-true k n (u .0), leb-true n limit (u .1))),
-        λ r. let u = r .1 (omega arith) in and (lt-ltb k n (u .0)) (le-leb n limit (u .1)),
-      )
+      λ t. let u = both (ltb k n) (leb n limit) t in (λ i. v, λ i. (ltb-true k n (u .0), leb-true n limit (u .1))),
+      λ r. let u = r .1 (omega arith) in and (lt-ltb k n (u .0)) (le-leb n limit (u .1)),
+    )
+
     second : 1 ≤ k → Dec (versionOf p ≡ 0) → judged limit k (sizeOf p) ≡ true ↔ Held limit k p
     second h (yes v) = third h v (decLt k 6)
     second h (no v) = rw (w .other (omega arith) v) (λ t. absurd (false≢true t), λ r. absurd (v (r .0 h)))
+
     first : Dec (k ≡ 0) → judged limit k (sizeOf p) ≡ true ↔ Held limit k p
     first (yes z) = (λ t. (λ i. absurd (omega arith), λ i. absurd (omega arith)), λ r. rw (w .none (omega arith)))
     first (no z) = second (omega arith) (ℕ-discrete (versionOf p) 0)
@@ -73,25 +77,25 @@ module _ (limit : ℕ) (part : List ℕ) (l : limit ≤ length part) where
   gathers : (k : ℕ) → stateFollows limit part (Gathering k) ≡ true ↔ Gathers limit part k
   unfolding stateFollows Gathers
   gathers k = (
-      λ t. let u = both (ltb k limit) (judged limit k (sizeOf (take k part))) t in
+    λ t. let u = both (ltb k limit) (judged limit k (sizeOf (take k part))) t in
         let h : k < limit = ltb-true k limit (u .0) in
         (h, held limit k (take k part) (length-take-le k part (omega arith)) .0 (u .1)),
-      λ w. let h = w .0 in
+    λ w. let h = w .0 in
         and (lt-ltb k limit h) (held limit k (take k part) (length-take-le k part (omega arith)) .1 (w .1)),
-    )
+  )
 
   keeps : (s : State) → stateFollows limit part s ≡ true ↔ Keeps limit part s
   unfolding stateFollows Keeps
   keeps Hunting = (λ t. (λ k q. hunting-gathering refl q, λ r q. hunting-skipping refl q), λ w. refl)
   keeps (Gathering k) = (
-      λ t. (λ m q. rw (gathering-same q) (gathers k .0 t), λ r q. gathering-skipping refl q),
-      λ w. gathers k .1 (w .0 k refl),
-    )
+    λ t. (λ m q. rw (gathering-same q) (gathers k .0 t), λ r q. gathering-skipping refl q),
+    λ w. gathers k .1 (w .0 k refl),
+  )
   keeps (Skipping r) = (
-      λ t. let u = both (leb 1 r) (leb r 65536) t in
+    λ t. let u = both (leb 1 r) (leb r 65536) t in
         (λ k q. gathering-skipping q refl, λ m q. rw (skipping-same q) (leb-true 1 r (u .0), leb-true r 65536 (u .1))),
-      λ w. let u = w .1 r refl in and (le-leb 1 r (u .0)) (le-leb r 65536 (u .1)),
-    )
+    λ w. let u = w .1 r refl in and (le-leb 1 r (u .0)) (le-leb r 65536 (u .1)),
+  )
 
 hunting : (s : State) → hunts s ≡ true ↔ s ≡ Hunting
 unfolding hunts
@@ -105,6 +109,7 @@ rules-in-words limit part c l = go (c .heard) refl
   where
     s : State
     s = c .state
+
     words : (c .heard ≡ false → s ≡ Hunting) → Keeps limit part s → InWords limit part c
     words f k =
         record {
@@ -112,13 +117,15 @@ rules-in-words limit part c l = go (c .heard) refl
           gathering = λ n e. k .0 n e .0;
           version = λ n e. k .0 n e .1 .0;
           total = λ n e. k .0 n e .1 .1;
-          skipping = k .1 }
+          skipping = k .1;
+        }
+
     go : (b : Bool) → c .heard ≡ b → pick b (stateFollows limit part s) (hunts s) ≡ true ↔ InWords limit part c
     go true h = (
-        λ t. words (λ f. absurd (false≢true (sym f ∙ h))) (keeps limit part l s .0 t),
-        λ w. keeps limit part l s .1 (λ k e. (w .gathering k e, (w .version k e, w .total k e)), w .skipping),
-      )
+      λ t. words (λ f. absurd (false≢true (sym f ∙ h))) (keeps limit part l s .0 t),
+      λ w. keeps limit part l s .1 (λ k e. (w .gathering k e, (w .version k e, w .total k e)), w .skipping),
+    )
     go false h = (
-        λ t. let z : s ≡ Hunting = hunting s .0 t in words (λ f. z) (keeps limit part l s .0 (rw z)),
-        λ w. hunting s .1 (w .unheard h),
-      )
+      λ t. let z : s ≡ Hunting = hunting s .0 t in words (λ f. z) (keeps limit part l s .0 (rw z)),
+      λ w. hunting s .1 (w .unheard h),
+    )

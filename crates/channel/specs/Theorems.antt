@@ -38,7 +38,7 @@ Rules-in-words = (limit : ℕ) (part : List ℕ) (c : Channel) → limit ≤ len
 abbrev pub Each-follows : Type 0
 Each-follows = (limit : ℕ) (store : List ℕ) (rec : Record)
     → recordFollows limit store rec ≡ true
-      ↔ ((v : ℕ) → v < length (rec .channels) → channelFollows limit (partOf limit v store) (getD (rec .channels) v freshChannel) ≡ true)
+    ↔ ((v : ℕ) → v < length (rec .channels) → channelFollows limit (partOf limit v store) (getD (rec .channels) v freshChannel) ≡ true)
 
 abbrev pub Fresh-follows : Type 0
 Fresh-follows = (limit : ℕ) (store : List ℕ) → recordFollows limit store freshRecord ≡ true

@@ -1,4 +1,5 @@
-use crate::state::{Record, State};
+use crate::state::Record;
+use crate::state::State;
 ghost use mathlib.Core.Path.{_≡_};
 ghost use Prim.Native.Nat.{_+_, _*_, _<_};
 ghost use Rattle.octets.specs.Pick.{pick};

@@ -6,5 +6,8 @@ mod store;
 
 pub use busy::busy_state;
 pub use rules::follows;
-pub use state::{Channel, Record, State};
-pub use store::{Output, Store};
+pub use state::Channel;
+pub use state::Record;
+pub use state::State;
+pub use store::Output;
+pub use store::Store;

@@ -1,6 +1,9 @@
-use crate::state::{Channel, Record, State};
+use crate::state::Channel;
+use crate::state::Record;
+use crate::state::State;
 use crate::store::Store;
-use packet::{Packet, Size};
+use packet::Packet;
+use packet::Size;
 ghost use mathlib.Core.Path.{_≡_};
 ghost use Prim.Native.Nat.{_*_, _≤_};
 ghost use lib.ListN.{length};

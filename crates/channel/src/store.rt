@@ -1,4 +1,5 @@
-use frame::{Header, SetUp};
+use frame::Header;
+use frame::SetUp;
 use packet::Packet;
 ghost use mathlib.Core.Path.{_≡_};
 ghost use Prim.Native.Nat.{_<_};
@@ -10,6 +11,7 @@ pub struct Store;
 
 impl Store {
     pub const PART: usize = Packet::MAX;
+
     pub const LEN: usize = Store::PART * Header::CHANNELS;
 
     pub fn fits(octets: usize) -> bool

@@ -111,9 +111,10 @@ module _ (store : List ℕ) (h : length store ≡ most * 8) where
   passes-after : (out : List ℕ) → outputFits most (length out) ≡ true → Passes (recordAfter 4 (Gathering 6)) (storeAfter store) out
   unfolding recordAfter channelAfter held storeFits recordFollows allFollow channelFollows stateFollows hunts judged sizeOf bitsAt numberAt
   passes-after out o = record {
-      store-fits = rw store-after-length;
-      output-fits = o;
-      follows = rw held-there }
+    store-fits = rw store-after-length;
+    output-fits = o;
+    follows = rw held-there;
+  }
 
   told2 : (out : List ℕ) → outputFits most (length out) ≡ true
       → told (recordAfter 4 (Gathering 6)) (storeAfter store) out frame2 ≡ values 1 10 5 1 0 0 2 0
@@ -131,7 +132,7 @@ module _ (store : List ℕ) (h : length store ≡ most * 8) where
 
   store2 : (out : List ℕ) → outputFits most (length out) ≡ true
       → read.storeOf bench (recordAfter 4 (Gathering 6)) (storeAfter store) out frame2
-        ≡ withPart most 3 (storeAfter store) (laid (partOf most 3 (storeAfter store)) 0 [])
+      ≡ withPart most 3 (storeAfter store) (laid (partOf most 3 (storeAfter store)) 0 [])
   unfolding read.storeOf read.readTable read.storeAfter row1 fitsOf openTable row5 row6 row7 row8 row9 row10 row11 row12 secondarySize dataSize wordOf frameOf headerOf firstCause bitsAt numberAt stepsOf carriesNone gapFor gapOf hunted endedBy courseOf walkOf turns turn seenOf front cutOf sizeOf idleOf talliedAll tallied resumed gathered agrees agreesBy calledAt held recordAfter channelAfter
   store2 out o =
       let p = passes-after out o in
@@ -187,12 +188,31 @@ table store out₁ out₂ out₃ w f h o₁ o₂ o₃ k =
     let q₂ = output-passes out₂ o₂ in
     let q₃ = output-passes out₃ o₃ in
     let r₁ = record1 store out₁ p in
-    let s₁ = store1 store out₁ p in
-    (b1 w k, (b2 w k, (b3 w k, (told1 store out₁ p, (output1 store out₁ p,
-    (rw (r₁, s₁) (told2 store h out₂ q₂),
-    (rw (r₁, s₁, record2 store h out₂ q₂) (told3-behind _ out₃ (store2-length store h out₂ q₂) q₃),
-    (rw (r₁, s₁) (told3 store h out₃ q₃),
-    (b5, (pointed store out₁ p .0, (pointed store out₁ p .1, (outside store out₁ f .0, (outside store out₁ f .1, tt)))))))))))))
+    let s₁ = store1 store out₁ p in (
+      b1 w k,
+      (
+        b2 w k,
+        (
+          b3 w k,
+          (
+            told1 store out₁ p,
+            (
+              output1 store out₁ p,
+              (
+                rw (r₁, s₁) (told2 store h out₂ q₂),
+                (
+                  rw (r₁, s₁, record2 store h out₂ q₂) (told3-behind _ out₃ (store2-length store h out₂ q₂) q₃),
+                  (
+                    rw (r₁, s₁) (told3 store h out₃ q₃),
+                    (b5, (pointed store out₁ p .0, (pointed store out₁ p .1, (outside store out₁ f .0, (outside store out₁ f .1, tt))))),
+                  ),
+                ),
+              ),
+            ),
+          ),
+        ),
+      ),
+    )
 
 -- B8, by the bound on every accepted frame
 at-most-292 : At-most-292

@@ -1,1 +1,14 @@
+pub mod Aligned
+pub mod Arrives
 pub mod Bench
+pub mod Calls
+pub mod Demand3
+pub mod Due
+pub mod Field
+pub mod Frame
+pub mod Hears
+pub mod History
+pub mod Moves
+pub mod Sample
+pub mod Spot
+pub mod Stream

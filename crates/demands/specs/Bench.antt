@@ -112,5 +112,5 @@ At-most-292 = (u : SetUp) (rec : Record) (store out f : List ℕ) (a : Report) �
 -- the claim
 abbrev pub Bench : Type 0
 Bench = ((store out₁ out₂ out₃ w f : List ℕ) → length store ≡ 32768 → 6144 ≤ length out₁ → 6144 ≤ length out₂ → 6144 ≤ length out₃
-        → length w ≡ 20 → All-hold (benchTable store out₁ out₂ out₃ w f))
+    → length w ≡ 20 → All-hold (benchTable store out₁ out₂ out₃ w f))
     × At-most-292

@@ -26,16 +26,17 @@ module _ (f : List ℕ) (b : numberAt f 2 2 < 65536) (c : numberAt f 4 2 < 65536
 
   pub header-is : (a z o p : ℕ) → a ≡ numberAt f 0 2 → z ≡ numberAt f 4 2 → o < 256 → p < 256 → numberAt f 2 2 ≡ o * 256 + p
       → record {
-          spacecraft = a / 16 % 1024;
-          channel = a / 2 % 8;
-          flagged = eqb (a % 2) 1;
-          master = record { 0 = o };
-          count = record { 0 = p };
-          secondary = eqb (z / 32768) 1;
-          synchronisation = eqb (z / 16384 % 2) 1;
-          order = eqb (z / 8192 % 2) 1;
-          segment = z / 2048 % 4;
-          pointer = z % 2048 }
+        spacecraft = a / 16 % 1024;
+        channel = a / 2 % 8;
+        flagged = eqb (a % 2) 1;
+        master = record { 0 = o };
+        count = record { 0 = p };
+        secondary = eqb (z / 32768) 1;
+        synchronisation = eqb (z / 16384 % 2) 1;
+        order = eqb (z / 8192 % 2) 1;
+        segment = z / 2048 % 4;
+        pointer = z % 2048;
+      }
       ≡ headerOf f
   unfolding headerOf
   header-is a z o p ea ez ho hp e =
@@ -43,16 +44,17 @@ module _ (f : List ℕ) (b : numberAt f 2 2 < 65536) (c : numberAt f 4 2 < 65536
       let n : numberAt f 2 2 % 256 ≡ p = omega arith in
       let t : numberAt f 4 2 / 32768 % 2 ≡ numberAt f 4 2 / 32768 = omega arith in
       rw (ea, ez) (sym (λ i. record {
-          spacecraft = in-first f 0 2 10 4 b c refl i;
-          channel = in-first f 0 12 3 1 b c refl i;
-          flagged = first-flag i;
-          master = record { 0 = (in-second f 0 16 8 8 b c refl (omega arith) ∙ m) i };
-          count = record { 0 = (in-second f 0 24 8 0 b c refl (omega arith) ∙ ap (λ (x : ℕ). x % 256) (div-one _) ∙ n) i };
-          secondary = (third-flag 32 15 refl (omega arith) ∙ ap (λ (x : ℕ). eqb x 1) t) i;
-          synchronisation = third-flag 33 14 refl (omega arith) i;
-          order = third-flag 34 13 refl (omega arith) i;
-          segment = in-third f 0 35 2 11 c refl (omega arith) i;
-          pointer = (in-third f 0 37 11 0 c refl (omega arith) ∙ ap (λ (x : ℕ). x % 2048) (div-one _)) i }))
+        spacecraft = in-first f 0 2 10 4 b c refl i;
+        channel = in-first f 0 12 3 1 b c refl i;
+        flagged = first-flag i;
+        master = record { 0 = (in-second f 0 16 8 8 b c refl (omega arith) ∙ m) i };
+        count = record { 0 = (in-second f 0 24 8 0 b c refl (omega arith) ∙ ap (λ (x : ℕ). x % 256) (div-one _) ∙ n) i };
+        secondary = (third-flag 32 15 refl (omega arith) ∙ ap (λ (x : ℕ). eqb x 1) t) i;
+        synchronisation = third-flag 33 14 refl (omega arith) i;
+        order = third-flag 34 13 refl (omega arith) i;
+        segment = in-third f 0 35 2 11 c refl (omega arith) i;
+        pointer = (in-third f 0 37 11 0 c refl (omega arith) ∙ ap (λ (x : ℕ). x % 2048) (div-one _)) i;
+      }))
 
 -- the octet of the secondary header that says its version and its length
 pub secondary-version-is : (f : List ℕ) → getD f 6 0 < 256 → secondaryVersion f ≡ getD f 6 0 / 64

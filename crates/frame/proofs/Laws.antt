@@ -42,8 +42,8 @@ pub accepted-exactly : Accepted-exactly
 unfolding openFrom
 accepted-exactly u f x =
     let e = none-exactly Refused (Accepted (frameOf u f)) (Accepted x)
-        (λ r q. let z : _≡_ {A = ℕ} 0 1 = cc in omega arith)
-        (openTable u f) in
+    (λ r q. let z : _≡_ {A = ℕ} 0 1 = cc in omega arith)
+    (openTable u f) in
     (λ o. let h = e .0 o in (cc (h .0), h .1), λ h. e .1 (ap Accepted (sym (h .0)), h .1))
 
 pub close-exactly : Close-exactly

@@ -24,9 +24,10 @@ in-range u e =
     let p = and-both (leb 13 (u .length)) (leb (u .length) 2048 && leb (u .spacecraft) 1023) e in
     let q = and-both (leb (u .length) 2048) (leb (u .spacecraft) 1023) (p .1) in
     record {
-        least = leb-true _ _ (p .0);
-        most = leb-true _ _ (q .0);
-        spacecraft = leb-true _ _ (q .1) }
+      least = leb-true _ _ (p .0);
+      most = leb-true _ _ (q .0);
+      spacecraft = leb-true _ _ (q .1);
+    }
 
 pub fits-in-range : (u : SetUp) → 13 ≤ u .length → u .length ≤ 2048 → fitsOf u ≡ leb (u .spacecraft) 1023
 unfolding fitsOf

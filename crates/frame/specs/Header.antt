@@ -25,13 +25,14 @@ versionOf f = field f 0 2
 unfoldable pub headerOf : List ℕ → Header
 headerOf f =
     record {
-        spacecraft = field f 2 10;
-        channel = field f 12 3;
-        flagged = flag f 15;
-        master = record { 0 = field f 16 8 };
-        count = record { 0 = field f 24 8 };
-        secondary = flag f 32;
-        synchronisation = flag f 33;
-        order = flag f 34;
-        segment = field f 35 2;
-        pointer = field f 37 11 }
+      spacecraft = field f 2 10;
+      channel = field f 12 3;
+      flagged = flag f 15;
+      master = record { 0 = field f 16 8 };
+      count = record { 0 = field f 24 8 };
+      secondary = flag f 32;
+      synchronisation = flag f 33;
+      order = flag f 34;
+      segment = field f 35 2;
+      pointer = field f 37 11;
+    }

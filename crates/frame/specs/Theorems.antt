@@ -72,12 +72,24 @@ abbrev pub Closed-opens : Type 0
 Closed-opens = (u : SetUp) (channel : ℕ) (m : MasterCount) (c : ChannelCount) (w : ControlWord) (p : ℕ) (out : List ℕ)
     → closeOf u channel out ≡ Closed.Written → m .0 < 256 → c .0 < 256 → wordNumber w < 2 ^ 32 → Points p (closeSize u w)
     → (openOf u (outputOf u channel m c w p out)
-        ≡ Opened.Accepted (record {
-            header = record {
-                spacecraft = u .spacecraft; channel = channel; flagged = flaggedBy w; master = m; count = c;
-                secondary = false; synchronisation = false; order = false; segment = 3; pointer = p };
-            word = wordNumber w; place = 6; size = closeSize u w }))
-      × (take (closeSize u w) (drop 6 (outputOf u channel m c w p out)) ≡ fieldIn u w out)
+    ≡ Opened.Accepted (record {
+      header = record {
+        spacecraft = u .spacecraft;
+        channel = channel;
+        flagged = flaggedBy w;
+        master = m;
+        count = c;
+        secondary = false;
+        synchronisation = false;
+        order = false;
+        segment = 3;
+        pointer = p;
+      };
+      word = wordNumber w;
+      place = 6;
+      size = closeSize u w;
+    }))
+    × (take (closeSize u w) (drop 6 (outputOf u channel m c w p out)) ≡ fieldIn u w out)
 
 -- step 1: the gap, with the frame itself, leads from the last count to this one, and no other number below 256 does
 abbrev pub Gap-exactly : Type 0

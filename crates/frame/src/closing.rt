@@ -1,6 +1,9 @@
-use crate::counts::{ChannelCount, MasterCount};
+use crate::counts::ChannelCount;
+use crate::counts::MasterCount;
 use crate::header::Header;
-use crate::opening::{if_present, CHECK, WORD};
+use crate::opening::CHECK;
+use crate::opening::WORD;
+use crate::opening::if_present;
 use crate::set_up::SetUp;
 ghost use mathlib.Core.Path.{_≡_};
 ghost use mathlib.Core.Bool.{true};

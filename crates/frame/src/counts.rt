@@ -3,6 +3,7 @@ ghost use Rattle.frame.specs.Counts.{gapOf, after};
 
 // The count of all frames of a spacecraft, and the count of those of one virtual channel: two types, so that neither stands in for the other.
 pub struct MasterCount(pub u8);
+
 pub struct ChannelCount(pub u8);
 
 impl MasterCount {

@@ -1,4 +1,5 @@
-use crate::counts::{ChannelCount, MasterCount};
+use crate::counts::ChannelCount;
+use crate::counts::MasterCount;
 ghost use mathlib.Core.Path.{_≡_};
 ghost use Prim.Native.Nat.{_≤_};
 ghost use lib.ListN.{length};
@@ -25,6 +26,7 @@ impl Header {
     pub const CHANNELS: usize = 8;
     // The pointer of a frame of idle data only, and of one in which no packet starts.
     pub const IDLE: usize = 2046;
+
     pub const NONE: usize = 2047;
     // The segment length id of frames that carry whole packets.
     pub const WHOLE: u8 = 3;

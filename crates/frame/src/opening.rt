@@ -13,6 +13,7 @@ ghost use Rattle.frame.specs.SetUp.{fitsOf};
 
 // Octets of the control word, if flagged, and of the error control field, if set up.
 pub const WORD: usize = 4;
+
 pub const CHECK: usize = 2;
 
 // Why a frame is not opened.
@@ -114,7 +115,10 @@ fn data_size(set: SetUp, h: Header, s: usize) -> usize
     requires { ⌜ s ≤ 64 ⌝ }
     ensures { λ r. ⌜ r ≡ dataSize set h s ⌝ }
 {
-    let taken = Header::SIZE + s + if_present(h.flagged, WORD) + if_present(set.error_control, CHECK);
+    let taken = Header::SIZE
+        + s
+        + if_present(h.flagged, WORD)
+        + if_present(set.error_control, CHECK);
     if taken < set.length {
         set.length - taken
     } else {

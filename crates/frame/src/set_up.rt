@@ -11,7 +11,9 @@ pub struct SetUp {
 impl SetUp {
     // The frame length, in octets.
     pub const MIN: usize = 13;
+
     pub const MAX: usize = 2048;
+
     pub const SPACECRAFT_MAX: u32 = 1023;
 
     pub fn fits(self) -> bool

@@ -13,7 +13,7 @@ low-field : (n j w : ℕ) → j + w ≤ 16 → n / 2 ^ j % 2 ^ w ≡ n % 2 ^ 16 
 low-field n j w h =
     let e : 16 - (w + j) + (w + j) ≡ 16 = omega arith in
     let m : n % 2 ^ (w + j) ≡ n % 2 ^ 16 % 2 ^ (w + j) =
-        sym (mod-mod-pow n (16 - (w + j)) (w + j)) ∙ ap (λ (k : ℕ). n % 2 ^ k % 2 ^ (w + j)) e in
+    sym (mod-mod-pow n (16 - (w + j)) (w + j)) ∙ ap (λ (k : ℕ). n % 2 ^ k % 2 ^ (w + j)) e in
     sym (field n w j) ∙ ap (λ (x : ℕ). x / 2 ^ j) m ∙ field (n % 2 ^ 16) w j
 
 module _ (l : List ℕ) (at first width j : ℕ) where

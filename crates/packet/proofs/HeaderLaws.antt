@@ -16,13 +16,14 @@ use Rattle.packet.specs.Size.{versionOf}
 module _ (p : List ℕ) (a : numberAt p 0 2 < 65536) (b : numberAt p 2 2 < 65536) (c : numberAt p 4 2 < 65536) where
   pub header-is : (x y z : ℕ) → x ≡ numberAt p 0 2 → y ≡ numberAt p 2 2 → z ≡ numberAt p 4 2
       → record {
-          version = x / 8192;
-          kind = x / 4096 % 2;
-          secondary = eqb (x / 2048 % 2) 1;
-          application = x % 2048;
-          grouping = y / 16384;
-          sequence = y % 16384;
-          total = z + 7 }
+        version = x / 8192;
+        kind = x / 4096 % 2;
+        secondary = eqb (x / 2048 % 2) 1;
+        application = x % 2048;
+        grouping = y / 16384;
+        sequence = y % 16384;
+        total = z + 7;
+      }
       ≡ headerOf p
   unfolding headerOf
   header-is x y z ex ey ez =
@@ -30,13 +31,14 @@ module _ (p : List ℕ) (a : numberAt p 0 2 < 65536) (b : numberAt p 2 2 < 65536
       let g : numberAt p 2 2 / 16384 % 4 ≡ numberAt p 2 2 / 16384 = omega arith in
       let l : numberAt p 4 2 % 65536 ≡ numberAt p 4 2 = omega arith in
       rw (ex, ey, ez) (sym (λ i. record {
-          version = (in-first p 0 0 3 13 b c refl ∙ v) i;
-          kind = in-first p 0 3 1 12 b c refl i;
-          secondary = eqb (in-first p 0 4 1 11 b c refl i) 1;
-          application = (in-first p 0 5 11 0 b c refl ∙ ap (λ (n : ℕ). n % 2048) (div-one _)) i;
-          grouping = (in-second p 0 16 2 14 b c refl (omega arith) ∙ g) i;
-          sequence = (in-second p 0 18 14 0 b c refl (omega arith) ∙ ap (λ (n : ℕ). n % 16384) (div-one _)) i;
-          total = ((in-third p 0 32 16 0 c refl (omega arith) ∙ ap (λ (n : ℕ). n % 65536) (div-one _) ∙ l) i) + 7 }))
+        version = (in-first p 0 0 3 13 b c refl ∙ v) i;
+        kind = in-first p 0 3 1 12 b c refl i;
+        secondary = eqb (in-first p 0 4 1 11 b c refl i) 1;
+        application = (in-first p 0 5 11 0 b c refl ∙ ap (λ (n : ℕ). n % 2048) (div-one _)) i;
+        grouping = (in-second p 0 16 2 14 b c refl (omega arith) ∙ g) i;
+        sequence = (in-second p 0 18 14 0 b c refl (omega arith) ∙ ap (λ (n : ℕ). n % 16384) (div-one _)) i;
+        total = ((in-third p 0 32 16 0 c refl (omega arith) ∙ ap (λ (n : ℕ). n % 65536) (div-one _) ∙ l) i) + 7;
+      }))
 
 -- the version, from the first octet
 pub version-is : (p : List ℕ) → getD p 0 0 < 256 → versionOf p ≡ getD p 0 0 / 32

@@ -20,10 +20,11 @@ use Rattle.packet.specs.Theorems.{InWords, Size-in-words, Empty-waits, F
 pub size-in-words : Size-in-words
 unfolding sizeOf
 size-in-words p = record {
-    none = λ e. rw (eq-eqb (length p) 0 e);
-    other = λ h v. rw (ne-eqb (length p) 0 (λ e. omega arith), ne-eqb (versionOf p) 0 v);
-    few = λ h v l. rw (ne-eqb (length p) 0 (λ e. omega arith), eq-eqb (versionOf p) 0 v, lt-ltb (length p) 6 l);
-    six = λ h v. rw (ne-eqb (length p) 0 (λ e. omega arith), eq-eqb (versionOf p) 0 v, le-ltb (length p) 6 h) }
+  none = λ e. rw (eq-eqb (length p) 0 e);
+  other = λ h v. rw (ne-eqb (length p) 0 (λ e. omega arith), ne-eqb (versionOf p) 0 v);
+  few = λ h v l. rw (ne-eqb (length p) 0 (λ e. omega arith), eq-eqb (versionOf p) 0 v, lt-ltb (length p) 6 l);
+  six = λ h v. rw (ne-eqb (length p) 0 (λ e. omega arith), eq-eqb (versionOf p) 0 v, le-ltb (length p) 6 h);
+}
 
 pub empty-waits : Empty-waits
 empty-waits = size-in-words [] .none refl
@@ -41,9 +42,11 @@ case-of p = first (ℕ-discrete (length p) 0)
     third : 1 ≤ length p → versionOf p ≡ 0 → Dec (length p < 6) → Case p
     third h v (yes l) = few h v l
     third h v (no l) = six (omega arith) v
+
     second : 1 ≤ length p → Dec (versionOf p ≡ 0) → Case p
     second h (yes v) = third h v (decLt (length p) 6)
     second h (no v) = other h v
+
     first : Dec (length p ≡ 0) → Case p
     first (yes e) = none e
     first (no e) = second (omega arith) (ℕ-discrete (versionOf p) 0)
@@ -81,6 +84,7 @@ foreign-stays p q e = go (case-of p)
   where
     w : InWords p
     w = size-in-words p
+
     go : Case p → sizeOf (p ++ q) ≡ Foreign
     go (none h) = wait-foreign (w .none h) e
     go (other h v) =
@@ -93,6 +97,7 @@ total-stays p q n e = go (case-of p)
   where
     w : InWords p
     w = size-in-words p
+
     go : Case p → sizeOf (p ++ q) ≡ Total n
     go (none h) = wait-total (w .none h) e
     go (other h v) = foreign-total (w .other h v) e
@@ -106,6 +111,7 @@ total-least p n e = go (case-of p)
   where
     w : InWords p
     w = size-in-words p
+
     go : Case p → 7 ≤ n
     go (none h) = wait-total (w .none h) e
     go (other h v) = foreign-total (w .other h v) e
@@ -117,6 +123,7 @@ total-most p n a b e = go (case-of p)
   where
     w : InWords p
     w = size-in-words p
+
     go : Case p → n ≤ 65542
     go (none h) = wait-total (w .none h) e
     go (other h v) = foreign-total (w .other h v) e
@@ -128,6 +135,7 @@ last-tells p q n e h = go (case-of p)
   where
     l : 7 ≤ n
     l = total-least (p ++ q) n e
+
     go : Case p → sizeOf p ≡ Total n
     go (none z) = absurd (omega (arith, l))
     go (other z v) = foreign-total (foreign-stays p q (size-in-words p .other z v)) e
@@ -144,8 +152,10 @@ first-tells p q e h = go (case-of p)
     with-version v (other z x) = absurd (x v)
     with-version v (few z x l) = wait-foreign (size-in-words (p ++ q) .few z x l) e
     with-version v (six z x) = foreign-total e (size-in-words (p ++ q) .six z x)
+
     w : InWords p
     w = size-in-words p
+
     go : Case p → sizeOf p ≡ Foreign
     go (none z) = absurd (omega arith)
     go (other z v) = w .other z v
@@ -157,8 +167,10 @@ six-tell p = go (decLt (length p) 6)
   where
     t : List ℕ
     t = take 6 p
+
     back : t ++ drop 6 p ≡ p
     back = take-append-drop 6 p
+
     more : length t ≡ 6 → Case t → sizeOf p ≡ sizeOf t
     more e (none h) = absurd (omega arith)
     more e (other h v) =
@@ -168,6 +180,7 @@ six-tell p = go (decLt (length p) 6)
     more e (six h v) =
         let f : sizeOf t ≡ Total (totalOf t) = size-in-words t .six h v in
         ap sizeOf (sym back) ∙ total-stays t (drop 6 p) (totalOf t) f ∙ sym f
+
     go : Dec (length p < 6) → sizeOf p ≡ sizeOf t
     go (yes l) = ap sizeOf (sym (take-all 6 p (omega arith)))
     go (no l) = more (length-take-le 6 p (omega arith)) (case-of t)

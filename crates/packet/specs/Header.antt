@@ -15,10 +15,11 @@ field p first width = bitsAt p 0 6 first width
 unfoldable pub headerOf : List ℕ → Header
 headerOf p =
     record {
-        version = field p 0 3;
-        kind = field p 3 1;
-        secondary = eqb (field p 4 1) 1;
-        application = field p 5 11;
-        grouping = field p 16 2;
-        sequence = field p 18 14;
-        total = field p 32 16 + 7 }
+      version = field p 0 3;
+      kind = field p 3 1;
+      secondary = eqb (field p 4 1) 1;
+      application = field p 5 11;
+      grouping = field p 16 2;
+      sequence = field p 18 14;
+      total = field p 32 16 + 7;
+    }

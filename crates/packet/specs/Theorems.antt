@@ -70,8 +70,8 @@ Chain-exactly = (run : List ℕ) → chainOf run ≡ true ↔ ((ps : List (List 
 abbrev pub Distance-exactly : Type 0
 Distance-exactly = (before : List (List ℕ)) (p : List ℕ) (behind : List (List ℕ)) → AllWhole before → Whole p → AllWhole behind
     → (distanceOf (endToEnd (before ++ p ∷ behind)) (length (endToEnd before)) ≡ 0)
-      × ((i : ℕ) → 1 ≤ i → i < length p
-        → distanceOf (endToEnd (before ++ p ∷ behind)) (length (endToEnd before) + i) ≡ length p - i)
+    × ((i : ℕ) → 1 ≤ i → i < length p
+    → distanceOf (endToEnd (before ++ p ∷ behind)) (length (endToEnd before) + i) ≡ length p - i)
 
 abbrev pub Distance-at-end : Type 0
 Distance-at-end = (ps : List (List ℕ)) → AllWhole ps → distanceOf (endToEnd ps) (length (endToEnd ps)) ≡ 0

@@ -1,4 +1,5 @@
-use crate::source::{Packet, Size};
+use crate::source::Packet;
+use crate::source::Size;
 ghost use mathlib.Core.Path.{_≡_};
 ghost use mathlib.Core.Bool.{true};
 ghost use Prim.Native.Nat.{_≤_};
@@ -12,13 +13,7 @@ fn front(run: &[u8]) -> usize
     match Packet::size(run) {
         Size::Wait => 0,
         Size::Foreign => 0,
-        Size::Total(n) => {
-            if n <= run.len() {
-                n
-            } else {
-                0
-            }
-        }
+        Size::Total(n) => { if n <= run.len() { n } else { 0 } }
     }
 }
 

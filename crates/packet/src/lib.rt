@@ -3,6 +3,8 @@ mod chain;
 mod header;
 mod source;
 
-pub use chain::{distance, is_chain};
+pub use chain::distance;
+pub use chain::is_chain;
 pub use header::Header;
-pub use source::{Packet, Size};
+pub use source::Packet;
+pub use source::Size;

@@ -18,6 +18,7 @@ impl Packet {
     pub const MIN: usize = 7;
     // The largest that is delivered, and the largest that the format has.
     pub const MAX: usize = 4096;
+
     pub const FORMAT_MAX: usize = 65542;
     // Octets of its header.
     pub const HEADER: usize = 6;

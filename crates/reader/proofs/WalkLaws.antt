@@ -87,7 +87,7 @@ walk-stop limit d e s = walk-turn limit d ∙ ap (λ (x : Seen). turn x d (walkO
 
 pub walk-whole : (limit : ℕ) (d : List ℕ) (n : ℕ) → seenOf limit d ≡ Whole n
     → walkOf limit d
-      ≡ record { whole = take n d ∷ walkOf limit (drop n d) .whole; end = walkOf limit (drop n d) .end; rest = walkOf limit (drop n d) .rest }
+    ≡ record { whole = take n d ∷ walkOf limit (drop n d) .whole; end = walkOf limit (drop n d) .end; rest = walkOf limit (drop n d) .rest }
 unfolding turn
 walk-whole limit d n s = walk-turn limit d ∙ ap (λ (x : Seen). turn x d (walkOf limit)) s
 
@@ -154,6 +154,7 @@ counted-more t p = go (idleOf p)
   where
     after : Bool → Tally
     after b = pick b (oneIdle t) (oneDelivered t (length p))
+
     go : (b : Bool) → after b .delivered + after b .idle ≡ t .delivered + t .idle + 1
     go true = omega arith
     go false = omega arith
@@ -165,7 +166,7 @@ finished-more limit t d n s = rw (walk-whole limit d n s)
 
 pub output-more : (limit : ℕ) (t : Tally) (d out : List ℕ) (n : ℕ) → seenOf limit d ≡ Whole n → t .filled + length d ≤ length out
     → laid (laid out (t .filled) (handed (take n d))) (tallied t (take n d) .filled) (handedAll (walkOf limit (drop n d) .whole))
-      ≡ laid out (t .filled) (handedAll (walkOf limit d .whole))
+    ≡ laid out (t .filled) (handedAll (walkOf limit d .whole))
 unfolding handedAll
 output-more limit t d out n s h =
     let l : t .filled + length (handed (take n d)) ≤ length out = omega (arith, handed-fits (take n d), length-take n d) in
@@ -265,19 +266,21 @@ module _ (limit : ℕ) (field : List ℕ) (from : ℕ) (out₀ : List ℕ) (t₀
         let lh : t .filled + length (handed (take n d)) ≤ length out = omega (arith, handed-fits (take n d), length-take n d) in
         let lf : t′ .filled ≡ t .filled + length (handed (take n d)) = ap (λ (x : Tally). x .filled) et′ ∙ filled-more t (take n d) in
         let lc : t′ .delivered + t′ .idle ≡ t .delivered + t .idle + 1 =
-            ap (λ (x : Tally). x .delivered + x .idle) et′ ∙ counted-more t (take n d) in
+        ap (λ (x : Tally). x .delivered + x .idle) et′ ∙ counted-more t (take n d) in
         record {
-            inside = omega (arith, st .there, k .inside);
-            length-kept = ap length eo′ ∙ length-laid out (t .filled) (handed (take n d)) lh ∙ k .length-kept;
-            same = rw (on, et′) (finished-more limit t d n s ∙ k .same);
-            output = rw (on, eo′, et′) (output-more limit t d out n s room ∙ k .output);
-            room = omega (arith, handed-fits (take n d), length-take n d, st .there, k .room, k .inside);
-            counts = omega (arith, st .there, st .least, k .counts, k .inside) }
+          inside = omega (arith, st .there, k .inside);
+          length-kept = ap length eo′ ∙ length-laid out (t .filled) (handed (take n d)) lh ∙ k .length-kept;
+          same = rw (on, et′) (finished-more limit t d n s ∙ k .same);
+          output = rw (on, eo′, et′) (output-more limit t d out n s room ∙ k .output);
+          room = omega (arith, handed-fits (take n d), length-take n d, st .there, k .room, k .inside);
+          counts = omega (arith, st .there, st .least, k .counts, k .inside);
+        }
 
     -- the walk ended
     pub kept-end : (e : End) → seenOf limit (drop at field) ≡ Stop e
         → (record { tally = t; end = e } ≡ finished t₀ (walkOf limit (drop from field)))
-          × (out ≡ laid out₀ (t₀ .filled) (handedAll (walkOf limit (drop from field) .whole)))
-    kept-end e s =
-        (finished-stop limit t (drop at field) e s ∙ k .same,
-        output-stop limit (drop at field) out e (t .filled) s ∙ k .output)
+        × (out ≡ laid out₀ (t₀ .filled) (handedAll (walkOf limit (drop from field) .whole)))
+    kept-end e s = (
+      finished-stop limit t (drop at field) e s ∙ k .same,
+      output-stop limit (drop at field) out e (t .filled) s ∙ k .output,
+    )

@@ -76,9 +76,17 @@ unfoldable pub reportOf : Frame → Channel → Done → Report
 reportOf x c d =
     let t : Tally = courseOf d .tally in
     record {
-        kind = kindOf (x .header); header = x .header; word = x .word; gap = gapFor c (x .header);
-        delivered = t .delivered; idle = t .idle; broken = d .broken; disagreement = d .disagreement; foreign = d .foreign;
-        oversize = d .oversize }
+      kind = kindOf (x .header);
+      header = x .header;
+      word = x .word;
+      gap = gapFor c (x .header);
+      delivered = t .delivered;
+      idle = t .idle;
+      broken = d .broken;
+      disagreement = d .disagreement;
+      foreign = d .foreign;
+      oversize = d .oversize;
+    }
 
 -- "Heard and last count are set"; only the frame's own channel changes
 unfoldable pub recordAfter : Frame → Record → Done → Record

@@ -64,14 +64,26 @@ brokenBy s = pick (busyState s) 1 0
 abbrev pub broke : State → Done → Done
 broke s d =
     record {
-        state = d .state; held = d .held; whole = d .whole; broken = brokenBy s; disagreement = d .disagreement;
-        foreign = d .foreign; oversize = d .oversize }
+      state = d .state;
+      held = d .held;
+      whole = d .whole;
+      broken = brokenBy s;
+      disagreement = d .disagreement;
+      foreign = d .foreign;
+      oversize = d .oversize;
+    }
 
 abbrev pub disagreed : State → Done → Done
 disagreed s d =
     record {
-        state = d .state; held = d .held; whole = d .whole; broken = brokenBy s; disagreement = 1; foreign = d .foreign;
-        oversize = d .oversize }
+      state = d .state;
+      held = d .held;
+      whole = d .whole;
+      broken = brokenBy s;
+      disagreement = 1;
+      foreign = d .foreign;
+      oversize = d .oversize;
+    }
 
 -- step 3: "If it ends below D, the pointer must be that place; if it ends at D, goes on beyond [..] the pointer must be 2047"
 unfoldable pub calledAt : ℕ → ℕ → ℕ
@@ -129,8 +141,13 @@ stepsOf limit part field h c =
 unfoldable pub courseOf : Done → Course
 courseOf d =
     record {
-        tally = talliedAll noTally (d .whole); state = d .state; broken = d .broken; disagreement = d .disagreement;
-        foreign = d .foreign; oversize = d .oversize }
+      tally = talliedAll noTally (d .whole);
+      state = d .state;
+      broken = d .broken;
+      disagreement = d .disagreement;
+      foreign = d .foreign;
+      oversize = d .oversize;
+    }
 
 -- the same from a walk's counts and its end over the field, and the octets that are then held
 unfoldable pub courseBy : Tally → End → Course
@@ -154,8 +171,13 @@ CutFits (End.Oversize r) field part = Unit {0}
 abbrev pub brokenCourse : State → Course → Course
 brokenCourse s c =
     record {
-        tally = c .tally; state = c .state; broken = brokenBy s; disagreement = c .disagreement; foreign = c .foreign;
-        oversize = c .oversize }
+      tally = c .tally;
+      state = c .state;
+      broken = brokenBy s;
+      disagreement = c .disagreement;
+      foreign = c .foreign;
+      oversize = c .oversize;
+    }
 
 abbrev pub disagreedCourse : State → Course → Course
 disagreedCourse s c =

@@ -1,4 +1,6 @@
-use crate::reading::{read_core, Answer, Outcome};
+use crate::reading::Answer;
+use crate::reading::Outcome;
+use crate::reading::read_core;
 use channel::Record;
 use frame::SetUp;
 ghost use Rattle.reader.specs.Reading.{Read};

@@ -1,6 +1,15 @@
-use crate::steps::{gap_for, steps, Kind};
-use channel::{follows, Channel, Output, Record, Store};
-use frame::{Frame, Header, Opened, SetUp};
+use crate::steps::Kind;
+use crate::steps::gap_for;
+use crate::steps::steps;
+use channel::Channel;
+use channel::Output;
+use channel::Record;
+use channel::Store;
+use channel::follows;
+use frame::Frame;
+use frame::Header;
+use frame::Opened;
+use frame::SetUp;
 use packet::Packet;
 ghost use mathlib.Core.Path.{_≡_};
 ghost use Rattle.reader.specs.Answers.{numberOf};
@@ -87,7 +96,15 @@ fn accept(rec: Record, x: Frame, frame: &[u8], store: &mut [u8], out: &mut [u8])
     let at = Store::place(v);
     let end = at + Store::PART;
     let gap = gap_for(channel, h);
-    let course = steps(&frame[from..to], h, channel, gap, Packet::MAX, &mut store[at..end], out);
+    let course = steps(
+        &frame[from..to],
+        h,
+        channel,
+        gap,
+        Packet::MAX,
+        &mut store[at..end],
+        out,
+    );
     let tally = course.tally;
     let state = course.state;
     let last = h.count;

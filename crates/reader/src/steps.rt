@@ -1,7 +1,12 @@
-use crate::walking::{walk, End, Ended, Tally};
-use channel::{Channel, State};
+use crate::walking::End;
+use crate::walking::Ended;
+use crate::walking::Tally;
+use crate::walking::walk;
+use channel::Channel;
+use channel::State;
 use frame::Header;
-use packet::{Packet, Size};
+use packet::Packet;
+use packet::Size;
 ghost use mathlib.Core.Path.{_≡_};
 ghost use mathlib.Core.Bool.{true, false};
 ghost use mathlib.Core.List.{_++_};
@@ -132,7 +137,14 @@ fn hold_more(field: &[u8], k: usize, part: &mut [u8]) -> Course
 }
 
 // Step 5 from a packet under way, of which k octets are held and which is told to have `size`.
-fn gather(field: &[u8], k: usize, size: Size, limit: usize, part: &mut [u8], out: &mut [u8]) -> Course
+fn gather(
+    field: &[u8],
+    k: usize,
+    size: Size,
+    limit: usize,
+    part: &mut [u8],
+    out: &mut [u8],
+) -> Course
     requires { ⌜ (length (now part) ≡ limit) × (4096 ≤ limit) × (limit ≤ 65542) × (1 ≤ length (now field)) × (length (now field) ≤ 2042) × (limit + 2048 ≤ length (now out)) ⌝ }
     requires { ⌜ (stateFollows limit (now part) (State.Gathering k) ≡ true) × (size ≡ sizeOf (take k (now part) ++ now field)) ⌝ }
     ensures { λ r. ⌜ Did (ended (walkOf limit (take k (now (part .entry)) ++ now (field .entry)))) r (now (part .entry)) (now (part .exit)) (now (out .entry)) (now (out .exit)) ⌝ }
@@ -218,7 +230,14 @@ fn disagreement(state: State, found: Course) -> Course
     }
 }
 
-fn resume_gathering(field: &[u8], k: usize, pointer: usize, limit: usize, part: &mut [u8], out: &mut [u8]) -> Course
+fn resume_gathering(
+    field: &[u8],
+    k: usize,
+    pointer: usize,
+    limit: usize,
+    part: &mut [u8],
+    out: &mut [u8],
+) -> Course
     requires { ⌜ Fit limit (now part) (now field) pointer (now out) ⌝ }
     requires { ⌜ (pointer ≡ idleData → ⊥) ⌝ }
     requires { ⌜ stateFollows limit (now part) (State.Gathering k) ≡ true ⌝ }
@@ -231,7 +250,14 @@ fn resume_gathering(field: &[u8], k: usize, pointer: usize, limit: usize, part: 
     disagreement(State::Gathering(k), hunt(field, pointer, limit, part, out))
 }
 
-fn resume_skipping(field: &[u8], r: usize, pointer: usize, limit: usize, part: &mut [u8], out: &mut [u8]) -> Course
+fn resume_skipping(
+    field: &[u8],
+    r: usize,
+    pointer: usize,
+    limit: usize,
+    part: &mut [u8],
+    out: &mut [u8],
+) -> Course
     requires { ⌜ Fit limit (now part) (now field) pointer (now out) ⌝ }
     requires { ⌜ (pointer ≡ idleData → ⊥) ⌝ }
     ensures { λ c. ⌜ Did (resumed limit (now (part .entry)) (now (field .entry)) pointer (State.Skipping r)) c (now (part .entry)) (now (part .exit)) (now (out .entry)) (now (out .exit)) ⌝ }
@@ -248,7 +274,14 @@ fn resume_skipping(field: &[u8], r: usize, pointer: usize, limit: usize, part: &
 }
 
 // Steps 3 to 5, by the channel's state.
-fn resume(field: &[u8], state: State, pointer: usize, limit: usize, part: &mut [u8], out: &mut [u8]) -> Course
+fn resume(
+    field: &[u8],
+    state: State,
+    pointer: usize,
+    limit: usize,
+    part: &mut [u8],
+    out: &mut [u8],
+) -> Course
     requires { ⌜ Fit limit (now part) (now field) pointer (now out) ⌝ }
     requires { ⌜ (pointer ≡ idleData → ⊥) ⌝ }
     requires { ⌜ stateFollows limit (now part) state ≡ true ⌝ }
@@ -285,7 +318,15 @@ pub fn gap_for(channel: Channel, h: Header) -> u8
 }
 
 // Steps 2 to 5 of a frame with this gap.
-pub fn steps(field: &[u8], h: Header, channel: Channel, gap: u8, limit: usize, part: &mut [u8], out: &mut [u8]) -> Course
+pub fn steps(
+    field: &[u8],
+    h: Header,
+    channel: Channel,
+    gap: u8,
+    limit: usize,
+    part: &mut [u8],
+    out: &mut [u8],
+) -> Course
     requires { ⌜ (h .synchronisation ≡ false → Fit limit (now part) (now field) (h .pointer) (now out)) ⌝ }
     requires { ⌜ (channelFollows limit (now part) channel ≡ true) × (gap ≡ gapFor channel h) ⌝ }
     ensures { λ r. ⌜ Did (stepsOf limit (now (part .entry)) (now (field .entry)) h channel) r (now (part .entry)) (now (part .exit)) (now (out .entry)) (now (out .exit)) ⌝ }

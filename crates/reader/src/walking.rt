@@ -1,4 +1,5 @@
-use packet::{Packet, Size};
+use packet::Packet;
+use packet::Size;
 ghost use mathlib.Core.Path.{_≡_};
 ghost use mathlib.Core.List.{_++_};
 ghost use Prim.Native.Nat.{_+_, _-_, _≤_, _<_};

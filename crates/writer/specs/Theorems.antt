@@ -38,12 +38,24 @@ abbrev pub Written-opens : Type 0
 Written-opens = (u : SetUp) (channel : ℕ) (p : Place) (w : ControlWord) (run out : List ℕ)
     → answerOf u channel p run out ≡ Frame → p .master .0 < 256 → p .count .0 < 256 → wordNumber w < 2 ^ 32
     → (openOf u (frameWritten u channel p w run)
-        ≡ Opened.Accepted (record {
-            header = record {
-                spacecraft = u .spacecraft; channel = channel; flagged = flaggedBy w; master = p .master; count = p .count;
-                secondary = false; synchronisation = false; order = false; segment = 3; pointer = laidPointer u w run p };
-            word = wordNumber w; place = 6; size = closeSize u w }))
-      × (take (closeSize u w) (drop 6 (frameWritten u channel p w run)) ≡ laidField u w run p)
+    ≡ Opened.Accepted (record {
+      header = record {
+        spacecraft = u .spacecraft;
+        channel = channel;
+        flagged = flaggedBy w;
+        master = p .master;
+        count = p .count;
+        secondary = false;
+        synchronisation = false;
+        order = false;
+        segment = 3;
+        pointer = laidPointer u w run p;
+      };
+      word = wordNumber w;
+      place = 6;
+      size = closeSize u w;
+    }))
+    × (take (closeSize u w) (drop 6 (frameWritten u channel p w run)) ≡ laidField u w run p)
 
 -- the data field is filled, at least one octet of it, and its pointer passes test 12
 pub record LaidWell (u : SetUp) (p : Place) (w : ControlWord) (run : List ℕ) : Type 0 where

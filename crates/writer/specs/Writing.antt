@@ -62,10 +62,11 @@ frameWritten u channel p w run = frameAround u channel (p .master) (p .count) w 
 unfoldable pub nextPlace : SetUp → Place → ControlWord → List ℕ → Place
 nextPlace u p w run =
     record {
-        offset = p .offset + length (runPart (closeSize u w) run (p .offset) (p .«left_over»));
-        «left_over» = leftOverAfter (closeSize u w) run (p .offset) (p .«left_over»);
-        master = record { 0 = after (p .master .0) };
-        count = record { 0 = after (p .count .0) } }
+      offset = p .offset + length (runPart (closeSize u w) run (p .offset) (p .«left_over»));
+      «left_over» = leftOverAfter (closeSize u w) run (p .offset) (p .«left_over»);
+      master = record { 0 = after (p .master .0) };
+      count = record { 0 = after (p .count .0) };
+    }
 
 -- one call: its answer, what the next call is given, and the output; on a refusal both as they were
 unfoldable pub answerOf : SetUp → ℕ → Place → List ℕ → List ℕ → Answer

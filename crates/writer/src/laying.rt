@@ -6,6 +6,7 @@ ghost use Rattle.writer.specs.Laying.{fillerOf, fieldOf, idlePacket, lef
 
 // The shortest idle packet, and the octet that idle data is made of.
 const SHORT_IDLE: [u8; 7] = [0x07, 0xFF, 0xC0, 0x00, 0x00, 0x00, 0x55];
+
 const FILL: u8 = 0x55;
 
 // What a data field was laid with: where the run goes on, what stays left over.
@@ -87,5 +88,9 @@ pub fn pointer(d: usize, to_start: usize, left_over: usize, nothing: bool) -> us
         return frame::Header::IDLE;
     }
     let start = left_over + to_start;
-    if start < d { start } else { frame::Header::NONE }
+    if start < d {
+        start
+    } else {
+        frame::Header::NONE
+    }
 }

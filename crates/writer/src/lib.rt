@@ -2,4 +2,9 @@
 mod laying;
 mod writing;
 
-pub use writing::{write, Answer, Place, Refusal, Run, Written};
+pub use writing::Answer;
+pub use writing::Place;
+pub use writing::Refusal;
+pub use writing::Run;
+pub use writing::Written;
+pub use writing::write;

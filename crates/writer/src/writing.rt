@@ -1,5 +1,10 @@
-use crate::laying::{lay, pointer};
-use frame::{ChannelCount, ControlWord, Header, MasterCount, SetUp};
+use crate::laying::lay;
+use crate::laying::pointer;
+use frame::ChannelCount;
+use frame::ControlWord;
+use frame::Header;
+use frame::MasterCount;
+use frame::SetUp;
 ghost use mathlib.Core.Path.{_≡_};
 ghost use Rattle.writer.specs.Answers.{numberOf};
 ghost use Rattle.writer.specs.Writing.{Ready, Wrote, WroteBy, row24};
@@ -83,7 +88,14 @@ fn bad_left_over(run: usize, offset: usize, left_over: usize) -> bool
 }
 
 // The frame itself, once all tests passed.
-fn write_frame(set: SetUp, channel: usize, place: Place, word: ControlWord, run: &[u8], output: &mut [u8]) -> Written
+fn write_frame(
+    set: SetUp,
+    channel: usize,
+    place: Place,
+    word: ControlWord,
+    run: &[u8],
+    output: &mut [u8],
+) -> Written
     requires { ⌜ Ready set channel place (now run) (now output) ⌝ }
     ensures { λ r. ⌜ WroteBy set channel place word (now (run .entry)) (r .answer) (r .next) (now (output .exit)) ⌝ }
 {
@@ -111,7 +123,14 @@ fn write_frame(set: SetUp, channel: usize, place: Place, word: ControlWord, run:
 }
 
 // Writes one frame: tests 1 and 20 to 25, the first cause found; then the frame.
-pub fn write(set: SetUp, channel: usize, place: Place, word: ControlWord, run: &[u8], output: &mut [u8]) -> Written
+pub fn write(
+    set: SetUp,
+    channel: usize,
+    place: Place,
+    word: ControlWord,
+    run: &[u8],
+    output: &mut [u8],
+) -> Written
     ensures { λ r. ⌜ Wrote set channel place word (now (run .entry)) (now (output .entry)) (r .answer) (r .next) (now (output .exit)) ⌝ }
 {
     if !set.fits() {

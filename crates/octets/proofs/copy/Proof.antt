@@ -37,11 +37,11 @@ loop-less c = search needs
 
 loop-again : tie.Need-loop-again Inv-loop μ-loop
 loop-again c = let l = c .before .before .loop in
-    let a = c .before .before .before .args in
-    (
-    omega arith,
-    simp length-set (l .inv .1),
-    copied (a .dst .now) (l .dst) (a .src .now) (a .at) (l .i) _ (omega arith) (omega arith) refl (l .inv .2))
+    let a = c .before .before .before .args in (
+      omega arith,
+      simp length-set (l .inv .1),
+      copied (a .dst .now) (l .dst) (a .src .now) (a .at) (l .i) _ (omega arith) (omega arith) refl (l .inv .2),
+    )
 
 same-length : tie.Need-same-length Inv-loop μ-loop
 same-length c = c .before .loop .inv .1

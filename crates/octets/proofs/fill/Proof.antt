@@ -34,15 +34,15 @@ loop-less c = search needs
 
 loop-again : tie.Need-loop-again Inv-loop μ-loop
 loop-again c = let l = c .before .loop in
-    let a = c .before .before .args in
-    (
-    omega arith,
-    simp length-set (l .inv .1),
-    copied (a .dst .now) (l .dst) (replicate (a .count) (a .v)) (a .at) (l .i) _
-    (omega arith)
-    (simp length-replicate (omega arith))
-    (sym (getD-replicate (a .count) (l .i) (a .v) 0 (omega arith)))
-    (l .inv .2))
+    let a = c .before .before .args in (
+      omega arith,
+      simp length-set (l .inv .1),
+      copied (a .dst .now) (l .dst) (replicate (a .count) (a .v)) (a .at) (l .i) _
+          (omega arith)
+          (simp length-replicate (omega arith))
+          (sym (getD-replicate (a .count) (l .i) (a .v) 0 (omega arith)))
+          (l .inv .2),
+    )
 
 same-length : tie.Need-same-length Inv-loop μ-loop
 same-length c = c .before .loop .inv .1

@@ -67,12 +67,12 @@ loop-less c = search needs
 
 loop-again : tie.Need-loop-again Inv-loop μ-loop
 loop-again c = let l = c .before .before .before .before .before .before .loop in
-    let a = c .before .before .before .before .before .before .before .before .args in
-    (
-    l .inv .0,
-    omega arith,
-    l .inv .2 ∙ follow-next most (a .store .now) (a .t1 .channels) (l .v) _ _ _ (omega arith) (c .before .before .before .before .place .ensures)
-    (c .before .channel-follows .ensures) (not-false _ (c .if1 .left)))
+    let a = c .before .before .before .before .before .before .before .before .args in (
+      l .inv .0,
+      omega arith,
+      l .inv .2 ∙ follow-next most (a .store .now) (a .t1 .channels) (l .v) _ _ _ (omega arith) (c .before .before .before .before .place .ensures)
+          (c .before .channel-follows .ensures) (not-false _ (c .if1 .left)),
+    )
 
 returns-2 : tie.Need-returns-2 Inv-loop μ-loop
 returns-2 c = let l = c .before .loop in

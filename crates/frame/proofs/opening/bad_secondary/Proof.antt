@@ -16,7 +16,7 @@ returns : tie.Need-returns
 unfolding row9
 returns c = let f = c .before .before .before .args .frame .now in
     let e : c .octet .result / 64 ≡ secondaryVersion f =
-        omega (arith, secondary-version-is f (omega arith)) in
+    omega (arith, secondary-version-is f (omega arith)) in
     cc
 
 returns-2 : tie.Need-returns-2

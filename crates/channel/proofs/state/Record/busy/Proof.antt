@@ -42,11 +42,11 @@ loop-less : tie.Need-loop-less Inv-loop μ-loop
 loop-less c = search needs
 
 loop-again : tie.Need-loop-again Inv-loop μ-loop
-loop-again c = let l = c .before .before .before .before .loop in
-    (
-    l .inv .0,
-    omega arith,
-    mask-turn _ (l .v) _ _ _ _ (omega arith) (omega arith) (c .before .busy-state .ensures) (l .inv .2) (c .with-bit .ensures))
+loop-again c = let l = c .before .before .before .before .loop in (
+  l .inv .0,
+  omega arith,
+  mask-turn _ (l .v) _ _ _ _ (omega arith) (omega arith) (c .before .busy-state .ensures) (l .inv .2) (c .with-bit .ensures),
+)
 
 returns : tie.Need-returns Inv-loop μ-loop
 returns c = let l = c .before .loop in

@@ -28,7 +28,7 @@ returns : tie.Need-returns
 unfolding idleOf
 returns c = let p = c .before .before .before .before .args .held .now ++ c .before .before .before .before .args .more .now in
     let e : (c .before .octet-across .result * 256 + c .octet-across2 .result) % 2048 ≡ bitsAt p 0 2 5 11 =
-        omega (arith, number-two p 0, application-is p) in
+    omega (arith, number-two p 0, application-is p) in
     rw e
 
 pub idle-across-spec : {M : Type 1} → statement M

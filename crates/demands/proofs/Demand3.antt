@@ -1,0 +1,65 @@
+-- Demand 3: along every history that keeps to the demand's conditions, each arrival hands out exactly what is due in it.
+-- Assumes nothing.
+use mathlib.Core.Path.{refl, ap}
+use mathlib.Core.Bool.{Bool, true, false}
+use mathlib.Core.List.{List, [], _∷_, _++_}
+use mathlib.Core.Logic.{inl}
+use Prim.Native.Nat.{ℕ, _+_, _<_}
+use native.Mathlib.Omega.{arith}
+use lib.ListN.{replicate, getD-replicate}
+use Rattle.packet.specs.Size.{most}
+use Rattle.packet.specs.Theorems.{AllWhole}
+use Rattle.frame.specs.declared.set_up.SetUp.{SetUp}
+use Rattle.channel.specs.State.{freshChannel, freshRecord}
+use Rattle.channel.specs.declared.state.Channel.{Channel}
+use Rattle.channel.specs.declared.state.Record.{Record}
+use Rattle.channel.proofs.Laws.{fresh-follows}
+use Rattle.reader.specs.Reading.{recordOf, storeOf}
+use Rattle.demands.specs.Demand3.{Demand3, Demand3-fresh}
+use Rattle.demands.specs.History.{Event, Allowed, Delivers, carried}
+use Rattle.demands.specs.History.Event.{lost, arrives, other}
+use Rattle.demands.specs.Sender.{streamOf}
+use Rattle.demands.proofs.Hears.Reads.{unheard}
+use Rattle.demands.proofs.History.{Kept, after-lost, arrival-calls, arrival-keeps, other-keeps, refused-keeps}
+use Rattle.demands.proofs.Spot.Lost.{lost-free}
+
+module _ (u : SetUp) (v : ℕ) (tail : List ℕ) (ps : List (List ℕ)) (w : AllWhole ps) (h : v < 8) where
+  along : (es : List Event) (fs : List (List ℕ)) (rec : Record) (store : List ℕ) (heard : Bool) (missing : ℕ) (came : List Bool)
+      → Kept u v tail ps rec store heard missing came fs → Allowed u v rec store heard missing fs es
+      → Delivers u tail ps rec store came fs es
+  along [] fs rec store heard missing came k a = tt
+  along (lost ∷ es) [] rec store heard missing came k a = tt
+  along (lost ∷ es) (f ∷ fs) rec store heard missing came k a =
+      along es fs rec store heard (missing + 1) (came ++ replicate (carried u f) false) (after-lost w k) a
+  along (arrives out ∷ es) [] rec store heard missing came k a = tt
+  along (arrives out ∷ es) (f ∷ fs) rec store heard missing came k a = (
+    arrival-calls w k (a .1) out (a .0),
+    along es fs (recordOf u rec store out f) (storeOf u rec store out f) true 0 (came ++ replicate (carried u f) true)
+        (arrival-keeps w k (a .1) out (a .0)) (a .2),
+  )
+  along (other u′ true s out f ∷ es) fs rec store heard missing came k a =
+      along es fs (recordOf u′ rec store out f) (storeOf u′ rec store out f) heard missing came
+      (other-keeps k u′ out f h (a .0) (a .1)) (a .2)
+  along (other u′ false s out f ∷ es) fs rec store heard missing came k a =
+      along es fs (recordOf u′ rec s out f) store heard missing came (refused-keeps k u′ s out f (a .0)) (a .1)
+
+pub demand3 : Demand3
+unfolding streamOf
+demand3 u v count tail ps fs rec store es w s h eight whole octets follows fresh a =
+    along u v tail ps w h es fs rec store false 0 []
+    (record {
+      count = count;
+      rest = streamOf tail ps;
+      to-come = tail;
+      behind = ps;
+      sends = s;
+      rest-is = refl;
+      fine = record { eight = eight; store-whole = whole; octets = octets; follows = follows };
+      reads = unheard fresh refl (lost-free (record { done = []; split = refl; place = omega arith; over = inl refl }));
+    })
+    a
+
+pub demand3-fresh : Demand3-fresh
+demand3-fresh u v count tail ps fs store es w s h whole octets a =
+    demand3 u v count tail ps fs freshRecord store es w s h refl whole octets (fresh-follows most store)
+    (ap (λ (c : Channel). c .heard) (getD-replicate 8 v freshChannel freshChannel h)) a

@@ -1,0 +1,135 @@
+-- One arriving frame with packets: where the reader stands before it, the whole packets that it brings, and where the reader stands then.
+-- Assumes nothing.
+use mathlib.Core.Path.{_≡_, refl, sym}
+use mathlib.Core.Bool.{Bool, true}
+use mathlib.Core.List.{List, [], _∷_, _++_}
+use mathlib.Core.Logic.{_⊎_}
+use Prim.Native.Nat.{ℕ, _-_, _≤_, _<_}
+use native.Mathlib.Omega.{arith}
+use lib.ListN.{length, take, drop, replicate, length-append}
+use borrow.Author.Tests.{eq-eqb, ne-eqb, lt-ltb, le-ltb, le-leb, lt-leb}
+use Rattle.packet.specs.Size.{sizeOf, most}
+use Rattle.packet.specs.Theorems.{Whole, AllWhole, endToEnd}
+use Rattle.packet.specs.declared.source.Size.{Size}
+use Rattle.packet.specs.declared.source.Size.the-variants.{Wait, Total}
+use Rattle.frame.specs.Opening.{noneStarts}
+use Rattle.channel.specs.declared.state.State.{State}
+use Rattle.channel.specs.declared.state.State.the-variants.{Hunting, Gathering, Skipping}
+use Rattle.reader.specs.Steps.{Done, only, ended, hunted, calledAt, agreesBy, agrees, gathered, skipped}
+use Rattle.reader.specs.Walk.{walkOf}
+use Rattle.demands.specs.Sender.{Mark, inner, laidOut}
+use Rattle.demands.proofs.Aligned.{AllFit, Ran, Standing, exact-ran, exact-state, midst-done}
+use Rattle.demands.proofs.Aligned.Standing.{gathering, skipping}
+use Rattle.demands.proofs.Spot.{Free, Inside, Lost, finishes}
+use Rattle.demands.proofs.Stream.{whole-some}
+
+-- where the reader stands while no frame is missing: it hunts and no packet is under way that it could finish; it is between packets; it
+-- holds all octets so far of the packet under way; or it skips a packet that is too long
+pub data Stand (s : State) (part tail : List ℕ) (ps : List (List ℕ)) (came : List Bool) (q : List ℕ) (behind : List (List ℕ)) : Type 0 where
+  hunting : s ≡ Hunting → Lost tail ps came q behind → Stand s part tail ps came q behind
+  between : s ≡ Gathering 0 → q ≡ [] → Free tail ps came q behind → Stand s part tail ps came q behind
+  gathers : (begun : List ℕ) → s ≡ Gathering (length begun) → take (length begun) part ≡ begun
+      → (length (begun ++ q) ≤ most) ⊎ (sizeOf begun ≡ Wait) → Inside tail ps came begun q behind true → Stand s part tail ps came q behind
+  skips : (begun : List ℕ) (b : Bool) → s ≡ Skipping (length q) → most < length (begun ++ q) → Inside tail ps came begun q behind b
+      → Stand s part tail ps came q behind
+
+-- what an arriving frame of D octets did is right: the packets that it finishes came out, and the reader stands where the sender does
+pub record Good (d : Done) (tail : List ℕ) (ps : List (List ℕ)) (came : List Bool) (D : ℕ) (rest : List Mark) : Type 0 where
+  pub ran : Ran d (finishes tail ps came D)
+  pub to-come : List ℕ
+  pub behind : List (List ℕ)
+  pub rest-is : rest ≡ inner to-come ++ laidOut behind
+  pub stands : (part : List ℕ) → take (length (d .held)) part ≡ d .held
+      → Stand (d .state) part tail ps (came ++ replicate D true) to-come behind
+
+pub none-there : (ws : List (List ℕ)) → AllWhole ws → length (endToEnd ws) ≡ 0 → ws ≡ []
+none-there [] w h = refl
+none-there (p ∷ ws) w h = absurd (omega (arith, whole-some p (w .0), length-append p (endToEnd ws)))
+
+pub called-below : (D e : ℕ) → e < D → calledAt D e ≡ e
+unfolding calledAt
+called-below D e h = rw (lt-ltb e D h)
+
+pub called-beyond : (D e : ℕ) → D ≤ e → calledAt D e ≡ noneStarts
+unfolding calledAt
+called-beyond D e h = rw (le-ltb e D h)
+
+-- the steps where the pointer agrees
+pub hunted-none : (field : List ℕ) (pointer : ℕ) → pointer ≡ noneStarts → hunted most field pointer ≡ only Hunting
+unfolding hunted
+hunted-none field pointer e = rw (eq-eqb pointer noneStarts e)
+
+pub hunted-at : (field : List ℕ) (pointer : ℕ) → pointer < 2047 → hunted most field pointer ≡ ended (walkOf most (drop pointer field))
+unfolding hunted
+hunted-at field pointer h = rw (ne-eqb pointer noneStarts (λ z. omega arith))
+
+pub gathered-on : (part field : List ℕ) (pointer k : ℕ) (s : Size) → agrees (length field) k s pointer ≡ true
+    → gathered most part field pointer k s ≡ ended (walkOf most (take k part ++ field))
+unfolding gathered
+gathered-on part field pointer k s e = rw e
+
+pub agrees-none : (D k : ℕ) (s : Size) (pointer : ℕ) → k ≡ 0 → pointer ≡ calledAt D 0 → agrees D k s pointer ≡ true
+unfolding agrees
+agrees-none D k s pointer e h = rw (eq-eqb k 0 e) (eq-eqb pointer (calledAt D 0) h)
+
+pub agrees-wait : (D k : ℕ) (s : Size) (pointer : ℕ) → 1 ≤ k → s ≡ Wait → pointer ≡ noneStarts → agrees D k s pointer ≡ true
+unfolding agrees agreesBy
+agrees-wait D k s pointer h e z = rw (ne-eqb k 0 (λ y. omega arith), e) (eq-eqb pointer noneStarts z)
+
+pub agrees-total : (D k n : ℕ) (s : Size) (pointer : ℕ) → 1 ≤ k → s ≡ Total n → pointer ≡ calledAt D (n - k) → agrees D k s pointer ≡ true
+unfolding agrees agreesBy
+agrees-total D k n s pointer h e z = rw (ne-eqb k 0 (λ y. omega arith), e) (eq-eqb pointer (calledAt D (n - k)) z)
+
+pub skipped-past : (field : List ℕ) (pointer r : ℕ) → pointer ≡ calledAt (length field) r → r ≤ length field
+    → skipped most field pointer r ≡ ended (walkOf most (drop r field))
+unfolding skipped
+skipped-past field pointer r e h = rw (eq-eqb pointer (calledAt (length field) r) e, le-leb r (length field) h)
+
+pub skipped-on : (field : List ℕ) (pointer r : ℕ) → pointer ≡ calledAt (length field) r → length field < r
+    → skipped most field pointer r ≡ only (Skipping (r - length field))
+unfolding skipped
+skipped-on field pointer r e h = rw (eq-eqb pointer (calledAt (length field) r) e, lt-leb r (length field) h)
+
+module _ {tail : List ℕ} {ps : List (List ℕ)} {came : List Bool} {D : ℕ} {rest : List Mark} where
+  -- nothing came out and the channel hunts
+  pub only-good : (q : List ℕ) (behind : List (List ℕ)) → finishes tail ps came D ≡ [] → Lost tail ps (came ++ replicate D true) q behind
+      → rest ≡ inner q ++ laidOut behind → Good (only Hunting) tail ps came D rest
+  only-good q behind f l r =
+      record {
+        ran = record { whole = sym f; none-foreign = refl; none-disagrees = refl };
+        to-come = q;
+        behind = behind;
+        rest-is = r;
+        stands = λ part h. hunting refl l;
+      }
+
+  -- the walk came to an exact end, or into the beginning of a packet
+  pub exact-good : (d : Done) (vs behind : List (List ℕ)) → AllWhole vs → AllFit most vs → finishes tail ps came D ≡ vs
+      → d ≡ ended (walkOf most (endToEnd vs)) → Free tail ps (came ++ replicate D true) [] behind → rest ≡ laidOut behind
+      → Good d tail ps came D rest
+  unfolding inner
+  exact-good d vs behind w a f e s r =
+      rw e
+      (record {
+        ran = rw f (exact-ran vs w a);
+        to-come = [];
+        behind = behind;
+        rest-is = r;
+        stands = λ part h. between (exact-state vs w a) refl s;
+      })
+
+  pub midst-good : (d : Done) (vs : List (List ℕ)) (begun left : List ℕ) (behind : List (List ℕ)) → AllWhole vs → AllFit most vs
+      → Whole (begun ++ left) → finishes tail ps came D ≡ vs → d ≡ ended (walkOf most (endToEnd vs ++ begun))
+      → Inside tail ps (came ++ replicate D true) begun left behind true → rest ≡ inner left ++ laidOut behind
+      → Good d tail ps came D rest
+  midst-good d vs begun left behind w a p f e s r =
+      let m = midst-done vs w a begun left p (s .some) (s .more) in
+      rw e (record { ran = rw f (m .0); to-come = left; behind = behind; rest-is = r; stands = λ part h. go part h (m .1) })
+    where
+      x : Done
+      x = ended (walkOf most (endToEnd vs ++ begun))
+
+      go : (part : List ℕ) → take (length (x .held)) part ≡ x .held → Standing (x .state) (x .held) begun left
+          → Stand (x .state) part tail ps (came ++ replicate D true) left behind
+      go part h (gathering y i o) = gathers begun y (rw i at h) o s
+      go part h (skipping y o) = skips begun true y o s
