@@ -2,13 +2,16 @@ pub mod Aligned
 pub mod Arrives
 pub mod Bench
 pub mod Calls
+pub mod Demand1
 pub mod Demand3
 pub mod Due
+pub mod FewEnough
 pub mod Field
 pub mod Frame
 pub mod Hears
 pub mod History
 pub mod Moves
+pub mod OneAnswer
 pub mod Sample
 pub mod Spot
 pub mod Stream

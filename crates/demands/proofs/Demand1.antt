@@ -1,0 +1,22 @@
+-- Demand 1, from the theorems of the crates.
+-- Assumes nothing.
+use Rattle.frame.proofs.Laws as frame
+use Rattle.reader.proofs.Laws as reader
+use Rattle.writer.proofs.Laws as writer
+use Rattle.demands.specs.Demand1.{Demand1}
+
+pub demand1 : Demand1
+demand1 =
+    record {
+      reading-numbers = reader.number-exactly;
+      reading-accepts = reader.accepted-exactly;
+      reading-untouched = reader.refused-untouched;
+      reading-zero = reader.refused-zero;
+      writing-numbers = writer.number-exactly;
+      writing-accepts = writer.written-exactly;
+      writing-untouched = writer.refused-untouched;
+      opening-numbers = frame.number-exactly;
+      opening-accepts = frame.accepted-exactly;
+      closing-numbers = frame.close-exactly;
+      closing-untouched = frame.close-untouched;
+    }
