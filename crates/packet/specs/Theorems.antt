@@ -1,4 +1,5 @@
--- What is proved of a packet's size besides the functions' contracts. The proofs are in proofs/Laws.antt, under these names in lower case.
+-- What is proved of a packet's size and of chains besides the functions' contracts. The proofs are in proofs/Laws.antt and proofs/ChainLaws.antt,
+-- under these names in lower case.
 use mathlib.Core.Path.{_≡_}
 use mathlib.Core.Bool.{true, false}
 use mathlib.Core.List.{List, [], _∷_, _++_}
