@@ -12,6 +12,6 @@ pub mod Hears
 pub mod History
 pub mod Moves
 pub mod OneAnswer
-pub mod Sample
 pub mod Spot
 pub mod Stream
+pub mod Witness

@@ -5,3 +5,4 @@ pub mod FewEnough
 pub mod History
 pub mod OneAnswer
 pub mod Sender
+pub mod Witness

@@ -1,4 +1,4 @@
--- Runs of octets laid one behind the other or between others, and numbers read back from their octets.
+-- Runs of octets laid one behind the other, and numbers read back from their octets.
 -- Assumes nothing.
 use mathlib.Core.Path.{_≡_, refl, _∙_, sym, ap, ap₂}
 use mathlib.Core.List.{List, [], _∷_, _++_, append-assoc, append-nil}

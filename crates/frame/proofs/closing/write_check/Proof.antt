@@ -1,8 +1,8 @@
 -- `frame::write_check` meets its contract: the check over all octets before it, in the last two.
 -- Assumes nothing.
-use mathlib.Core.Path.{_∙_, sym}
+use mathlib.Core.Path.{_∙_}
 use native.Mathlib.Omega.{arith}
-use lib.Seq.{length-take-le}
+use lib.ListN.{length-take}
 use Rattle.frame.proofs.ClosingLaws.{check-laid, check-none}
 use borrow.Author.Needs.{needs}
 use Rattle.frame.proofs.closing.write_check.Statement.{statement}
@@ -15,7 +15,7 @@ slice-reshare-prefix-syndrome : tie.Need-slice-reshare-prefix-syndrome
 slice-reshare-prefix-syndrome c = search needs
 
 slice-aggregate-syndrome : tie.Need-slice-aggregate-syndrome
-slice-aggregate-syndrome c = sym (length-take-le _ _ (omega arith))
+slice-aggregate-syndrome c = simp length-take (omega arith)
 
 syndrome-requires : tie.Need-syndrome-requires
 syndrome-requires c κs = search needs

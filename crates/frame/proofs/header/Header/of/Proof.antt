@@ -35,8 +35,8 @@ returns c = let f = c .before .before .before .before .before .args .frame .now 
     header-is f b z _ _ _ _
     (c .before .before .before .number16 .ensures .0)
     (c .before .before .number162 .ensures .0)
-    (omega (arith, g 2))
-    (omega (arith, g 3))
+    (omega (arith, g 2, g 3))
+    (omega (arith, g 2, g 3))
     (number-two f 2)
 
 pub of-spec : {M : Type 1} → statement M

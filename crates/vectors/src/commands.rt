@@ -1,0 +1,159 @@
+// The commands: their names, how many numbers each takes, and whether octets follow.
+use crate::words::Found;
+use crate::words::find;
+use crate::words::number;
+use crate::words::past_spaces;
+use crate::words::same;
+
+pub enum Plain {
+    Crc,
+    Open,
+    Close,
+    Gap,
+    Size,
+    Chain,
+    Distance,
+    Walk,
+}
+
+pub enum Reading {
+    Fresh,
+    Paint,
+    Lend,
+    Channel,
+    Hold,
+    Read,
+    Busy,
+}
+
+pub enum Writing {
+    Run,
+    RunFill,
+    Write,
+    Again,
+}
+
+pub enum Command {
+    OfPlain(Plain),
+    OfReading(Reading),
+    OfWriting(Writing),
+    Back,
+    Unknown,
+}
+
+pub struct Shape {
+    pub command: Command,
+    pub numbers: usize,
+    pub octets: bool,
+}
+
+fn shaped(command: Command, numbers: usize, octets: bool) -> Shape {
+    Shape {
+        command,
+        numbers,
+        octets,
+    }
+}
+
+fn of_plain(c: Plain, numbers: usize, octets: bool) -> Shape {
+    shaped(Command::OfPlain(c), numbers, octets)
+}
+
+fn of_reading(c: Reading, numbers: usize, octets: bool) -> Shape {
+    shaped(Command::OfReading(c), numbers, octets)
+}
+
+fn of_writing(c: Writing, numbers: usize, octets: bool) -> Shape {
+    shaped(Command::OfWriting(c), numbers, octets)
+}
+
+pub fn named(word: &[u8]) -> Shape {
+    if same(word, b"crc") {
+        return of_plain(Plain::Crc, 0, true);
+    }
+    if same(word, b"open") {
+        return of_plain(Plain::Open, 3, true);
+    }
+    if same(word, b"close") {
+        return of_plain(Plain::Close, 9, true);
+    }
+    if same(word, b"gap") {
+        return of_plain(Plain::Gap, 2, false);
+    }
+    if same(word, b"size") {
+        return of_plain(Plain::Size, 0, true);
+    }
+    if same(word, b"chain") {
+        return of_plain(Plain::Chain, 0, true);
+    }
+    if same(word, b"distance") {
+        return of_plain(Plain::Distance, 1, true);
+    }
+    if same(word, b"walk") {
+        return of_plain(Plain::Walk, 2, true);
+    }
+    named_reading(word)
+}
+
+fn named_reading(word: &[u8]) -> Shape {
+    if same(word, b"fresh") {
+        return of_reading(Reading::Fresh, 0, false);
+    }
+    if same(word, b"paint") {
+        return of_reading(Reading::Paint, 1, false);
+    }
+    if same(word, b"lend") {
+        return of_reading(Reading::Lend, 2, false);
+    }
+    if same(word, b"channel") {
+        return of_reading(Reading::Channel, 5, false);
+    }
+    if same(word, b"hold") {
+        return of_reading(Reading::Hold, 1, true);
+    }
+    if same(word, b"read") {
+        return of_reading(Reading::Read, 3, true);
+    }
+    if same(word, b"busy") {
+        return of_reading(Reading::Busy, 0, false);
+    }
+    named_writing(word)
+}
+
+fn named_writing(word: &[u8]) -> Shape {
+    if same(word, b"run") {
+        return of_writing(Writing::Run, 0, true);
+    }
+    if same(word, b"runfill") {
+        return of_writing(Writing::RunFill, 2, false);
+    }
+    if same(word, b"write") {
+        return of_writing(Writing::Write, 11, false);
+    }
+    if same(word, b"again") {
+        return of_writing(Writing::Again, 2, false);
+    }
+    if same(word, b"back") {
+        return shaped(Command::Back, 0, false);
+    }
+    shaped(Command::Unknown, 0, true)
+}
+
+// The numbers that a command takes: the place past them.
+pub fn numbers(line: &[u8], wanted: usize, into: &mut [usize; 11]) -> Found {
+    let mut at = 0;
+    let mut i = 0;
+    while i < wanted && i < 11 {
+        let start = past_spaces(line, at);
+        let end = find(line, start, b' ');
+        match number(&line[start..end]) {
+            Found::Malformed => return Found::Malformed,
+            Found::Value(n) => {
+                into[i] = n;
+                at = end;
+                i += 1;
+            }
+        }
+    }
+    Found::Value(at)
+}
