@@ -40,7 +40,7 @@ module _ (ws behind : List (List ℕ)) where
   take-exact : take (length (endToEnd ws)) (endToEnd (ws ++ behind)) ≡ endToEnd ws
   take-exact = ap (take (length (endToEnd ws))) (end-append ws behind) ∙ take-append-seam (endToEnd ws) (endToEnd behind)
 
-  drop-exact : drop (length (endToEnd ws)) (laidOut (ws ++ behind)) ≡ laidOut behind
+  pub drop-exact : drop (length (endToEnd ws)) (laidOut (ws ++ behind)) ≡ laidOut behind
   drop-exact = ap (drop (length (endToEnd ws))) (laid-append ws behind) ∙ drop-at (laidOut ws) (laidOut behind) (length (endToEnd ws)) (length-laid ws)
 
   module _ (begun left : List ℕ) where
@@ -51,7 +51,7 @@ module _ (ws behind : List (List ℕ)) where
         ∙ ap (λ (l : List ℕ). endToEnd ws ++ take (length begun) l) (append-assoc begun left (endToEnd behind))
         ∙ ap (λ (l : List ℕ). endToEnd ws ++ l) (take-append-seam begun (left ++ endToEnd behind))
 
-    drop-midst : 1 ≤ length begun
+    pub drop-midst : 1 ≤ length begun
         → drop (length (endToEnd ws) + length begun) (laidOut (ws ++ (begun ++ left) ∷ behind)) ≡ inner left ++ laidOut behind
     unfolding laidOut
     drop-midst h =

@@ -47,7 +47,7 @@ reads-any (live a b h e m s) = any-stand s
 
 -- steps 1 and 2
 module _ (part field : List ℕ) (h : Header) (c : Channel) (s : h .synchronisation ≡ false) where
-  steps-idle : h .pointer ≡ idleData → stepsOf most part field h c ≡ broke (c .state) (only Hunting)
+  pub steps-idle : h .pointer ≡ idleData → stepsOf most part field h c ≡ broke (c .state) (only Hunting)
   unfolding stepsOf carriesNone
   steps-idle e = rw (s, eq-eqb (h .pointer) idleData e)
 
@@ -63,24 +63,24 @@ module _ (part field : List ℕ) (h : Header) (c : Channel) (s : h .synchronisat
       ap₂ (λ (x y : Bool). pick x (broke (c .state) (only Hunting))
       (pick (not y) (broke (c .state) (hunted most field (h .pointer))) (resumed most part field (h .pointer) (c .state)))) n g
 
-  steps-on : (h .pointer ≡ idleData → ⊥) → gapFor c h ≡ 0 → stepsOf most part field h c ≡ resumed most part field (h .pointer) (c .state)
+  pub steps-on : (h .pointer ≡ idleData → ⊥) → gapFor c h ≡ 0 → stepsOf most part field h c ≡ resumed most part field (h .pointer) (c .state)
   steps-on n g = steps-by true (carries n) (eq-eqb (gapFor c h) 0 g)
 
   steps-gap : (h .pointer ≡ idleData → ⊥) → (gapFor c h ≡ 0 → ⊥)
       → stepsOf most part field h c ≡ broke (c .state) (hunted most field (h .pointer))
   steps-gap n g = steps-by false (carries n) (ne-eqb (gapFor c h) 0 g)
 
-gap-unheard : (c : Channel) (h : Header) → c .heard ≡ false → gapFor c h ≡ 0
+pub gap-unheard : (c : Channel) (h : Header) → c .heard ≡ false → gapFor c h ≡ 0
 unfolding gapFor
 gap-unheard c h e = rw e
 
 -- the gap is the number of frames that are missing
-gap-heard : (c : Channel) (h : Header) (missing : ℕ) → c .heard ≡ true → c .last .0 < 256 → h .count .0 < 256 → missing ≤ mostMissing
+pub gap-heard : (c : Channel) (h : Header) (missing : ℕ) → c .heard ≡ true → c .last .0 < 256 → h .count .0 < 256 → missing ≤ mostMissing
     → (c .last .0 + missing + 1) % 256 ≡ h .count .0 → gapFor c h ≡ missing
 unfolding gapFor
 gap-heard c h missing e l k m g = rw e (sym (gap-exactly (h .count .0) (c .last .0) missing k l (omega arith) .1 g))
 
-unheard-hunts : (part : List ℕ) (c : Channel) → channelFollows most part c ≡ true → c .heard ≡ false → c .state ≡ Hunting
+pub unheard-hunts : (part : List ℕ) (c : Channel) → channelFollows most part c ≡ true → c .heard ≡ false → c .state ≡ Hunting
 unfolding channelFollows hunts
 unheard-hunts part c f e = go (c .state) (rw e at f)
   where

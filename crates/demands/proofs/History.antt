@@ -39,14 +39,14 @@ use Rattle.demands.proofs.Spot.{Lost}
 use Rattle.demands.proofs.Stream.{pointer-is}
 
 -- the sender's next frame
-data Upcoming (u : SetUp) (v count : ℕ) (rest : List Mark) (f : List ℕ) (fs : List (List ℕ)) : Type 0 where
+pub data Upcoming (u : SetUp) (v count : ℕ) (rest : List Mark) (f : List ℕ) (fs : List (List ℕ)) : Type 0 where
   with-packets : (x : Frame) → Sent u v count f x → x .size ≤ length rest → fieldOf x f ≡ octetsIn (take (x .size) rest)
       → x .header .pointer ≡ firstStart 0 (take (x .size) rest) → Sends u v (after count) (drop (x .size) rest) fs
       → Upcoming u v count rest f fs
   with-none : (x : Frame) → Sent u v count f x → x .header .pointer ≡ idleData → between rest ≡ true → Sends u v (after count) rest fs
       → Upcoming u v count rest f fs
 
-upcoming : {u : SetUp} {v count : ℕ} {rest : List Mark} {f : List ℕ} {fs : List (List ℕ)} → Sends u v count rest (f ∷ fs)
+pub upcoming : {u : SetUp} {v count : ℕ} {rest : List Mark} {f : List ℕ} {fs : List (List ℕ)} → Sends u v count rest (f ∷ fs)
     → Upcoming u v count rest f fs
 upcoming (packets count rest f fs x a b c d e) = with-packets x a b c d e
 upcoming (idle count rest f fs x a b c d) = with-none x a b c d
@@ -80,7 +80,7 @@ module _ {u : SetUp} {v : ℕ} {tail : List ℕ} {ps : List (List ℕ)} {rec : R
       → Next (k .to-come) (k .behind) (fieldOf x f) (drop (x .size) (k .rest))
   field-is x a b = rw (b, k .rest-is) (next-of (k .to-come) (k .behind) (x .size) (rw (k .rest-is) at a))
 
-  points-are : (x : Frame) → x .size ≤ length (k .rest) → x .header .pointer ≡ firstStart 0 (take (x .size) (k .rest))
+  pub points-are : (x : Frame) → x .size ≤ length (k .rest) → x .header .pointer ≡ firstStart 0 (take (x .size) (k .rest))
       → x .header .pointer ≡ calledAt (x .size) (length (k .to-come))
   points-are x a c =
       c ∙ ap (λ (r : List Mark). firstStart 0 (take (x .size) r)) (k .rest-is)

@@ -3,7 +3,7 @@
 -- Assumes nothing.
 use mathlib.Core.Path.{_≡_, refl, sym}
 use mathlib.Core.Bool.{Bool, true, false, _&&_}
-use mathlib.Core.List.{List, [], _∷_}
+use mathlib.Core.List.{List, [], _∷_, _++_, map}
 use mathlib.Core.Logic.{inl, inr}
 use Prim.Native.Nat.{ℕ, zero, suc, _+_, _≤_, _<_}
 use native.Mathlib.Omega.{arith}
@@ -33,7 +33,7 @@ use Rattle.reader.specs.declared.reading.Refusal.the-variants.{OfFrame, OutputL
 use Rattle.demands.specs.History.{Harmless, Allowed, Delivers, lastIn, allArrived, wanted, unwanted}
 use Rattle.demands.specs.Sender.{Mark, Octets, Sent, Sends, streamOf, inner, marksOf, laidOut, octetsIn, firstStart, between}
 use Rattle.demands.specs.Sender.Sends.{no-more, packets, idle}
-use Rattle.demands.specs.Witness.{ours, theirs, earlier, first, second, fourth, filler, fifth, laidPackets, frame1, frame2, frame3, frame4, frame5, frame6, frame7, frames, elsewhere, history, broughtIn, wantedIn, unwantedIn, outputsOf, Witness, Demand3-met}
+use Rattle.demands.specs.Witness.{ours, theirs, earlier, first, second, fourth, fifth, sixth, laidPackets, frame1, frame2, frame3, frame4, frame5, frame6, frame7, frames, elsewhere, history, broughtIn, outputsOf, dueTable, idleTable, Witness, Demand3-met}
 use Rattle.demands.proofs.Calls.{Fine, fine-after, others-keep, read}
 use Rattle.demands.proofs.Demand3.{demand3-fresh}
 
@@ -60,7 +60,7 @@ sent f count o e c s n = record { real = octets-by f o; opens = e; channel = c; 
 
 all-whole : AllWhole laidPackets
 unfolding sizeOf bitsAt numberAt
-all-whole = (refl, (refl, (refl, (refl, (refl, (refl, tt))))))
+all-whole = (refl, (refl, (refl, (refl, (refl, (refl, (refl, tt)))))))
 
 sends-all : Sends ours 3 254 (streamOf earlier laidPackets) frames
 unfolding below openFrom openTable frameOf firstCause row1 row5 row6 row7 row8 row9 row10 row11 row12 fitsOf headerOf secondarySize dataSize wordOf bitsAt numberAt after streamOf inner marksOf laidOut octetsIn firstStart between
@@ -99,14 +99,12 @@ module _ (rec : Record) (store out : List ℕ) (k : Fine rec store) where
   unfolding answerOf readTable openTable firstCause row1 row5 row6 row7 row8 fitsOf headerOf bitsAt numberAt storeFits outputFits
   theirs-harmless r = inl (OfFrame OtherSpacecraft, rw (k .store-whole, le-leb 6144 (length out) r, k .follows))
 
-is-due : (out : ℕ → List ℕ) (short store′ : List ℕ) → wantedIn (broughtIn ours earlier laidPackets [] frames (history out short store′))
-    ≡ [] ∷ (first ∷ []) ∷ (second ∷ []) ∷ [] ∷ (fourth ∷ []) ∷ (fifth ∷ []) ∷ []
-unfolding broughtIn wantedIn frameOf headerOf secondarySize dataSize wordOf bitsAt numberAt lastIn allArrived wanted idleOf
+is-due : (out : ℕ → List ℕ) (short store′ : List ℕ) → map wanted (broughtIn ours earlier laidPackets [] frames (history out short store′)) ≡ dueTable
+unfolding broughtIn frameOf headerOf secondarySize dataSize wordOf bitsAt numberAt lastIn allArrived wanted idleOf
 is-due out short store′ = refl
 
-is-idle : (out : ℕ → List ℕ) (short store′ : List ℕ) → unwantedIn (broughtIn ours earlier laidPackets [] frames (history out short store′))
-    ≡ [] ∷ [] ∷ [] ∷ [] ∷ [] ∷ (filler ∷ []) ∷ []
-unfolding broughtIn unwantedIn frameOf headerOf secondarySize dataSize wordOf bitsAt numberAt lastIn allArrived unwanted idleOf
+is-idle : (out : ℕ → List ℕ) (short store′ : List ℕ) → map unwanted (broughtIn ours earlier laidPackets [] frames (history out short store′)) ≡ idleTable
+unfolding broughtIn frameOf headerOf secondarySize dataSize wordOf bitsAt numberAt lastIn allArrived unwanted idleOf
 is-idle out short store′ = refl
 
 module _ (store : List ℕ) (out : ℕ → List ℕ) (short store′ : List ℕ) (length-is : length store ≡ 32768) (octets : Octets store)
@@ -151,7 +149,7 @@ module _ (store : List ℕ) (out : ℕ → List ℕ) (short store′ : List ℕ)
       is-allowed
 
   is-handed : outputsOf ours freshRecord store frames (history out short store′)
-      ≡ out 1 ∷ laid (out 3) 0 first ∷ laid (out 4) 0 second ∷ out 5 ∷ laid (out 8) 0 fourth ∷ laid (out 9) 0 fifth ∷ []
+      ≡ out 1 ∷ laid (out 3) 0 first ∷ laid (out 4) 0 second ∷ out 5 ∷ laid (out 8) 0 fourth ∷ laid (out 9) 0 (fifth ++ sixth) ∷ []
   unfolding frameOf headerOf secondarySize dataSize wordOf bitsAt numberAt lastIn allArrived wanted unwanted idleOf
   is-handed =
       let d₁ = delivers in

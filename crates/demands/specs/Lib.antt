@@ -1,5 +1,6 @@
 pub mod Bench
 pub mod Demand1
+pub mod Demand2
 pub mod Demand3
 pub mod FewEnough
 pub mod History

@@ -1,7 +1,7 @@
 -- A history that meets every condition of demand 3, octet by octet, and what is due in its arrivals. Proved in proofs/Witness.antt.
 use mathlib.Core.Path.{_≡_}
 use mathlib.Core.Bool.{Bool, true, false}
-use mathlib.Core.List.{List, [], _∷_, _++_}
+use mathlib.Core.List.{List, [], _∷_, _++_, map}
 use Prim.Native.Nat.{ℕ, _≤_, _<_}
 use lib.ListN.{length, replicate}
 use Rattle.octets.specs.Laid.{laid}
@@ -26,9 +26,13 @@ theirs = record { length = 20; spacecraft = 170; «error_control» = false }
 abbrev pub earlier : List ℕ
 earlier = 0x11 ∷ 0x22 ∷ []
 
--- 20 octets: begun in the first frame, ended in the second
+-- an idle packet of the first frame
+abbrev pub filler : List ℕ
+filler = 0x07 ∷ 0xFF ∷ 0xC0 ∷ 0x00 ∷ 0x00 ∷ 0x00 ∷ 0x55 ∷ []
+
+-- 13 octets: its header is split, five octets in the first frame and one in the second
 abbrev pub first : List ℕ
-first = 0x01 ∷ 0x23 ∷ 0xC0 ∷ 0x05 ∷ 0x00 ∷ 0x0D ∷ 0x30 ∷ 0x31 ∷ 0x32 ∷ 0x33 ∷ 0x34 ∷ 0x35 ∷ 0x36 ∷ 0x37 ∷ 0x38 ∷ 0x39 ∷ 0x3A ∷ 0x3B ∷ 0x3C ∷ 0x3D ∷ []
+first = 0x01 ∷ 0x23 ∷ 0xC0 ∷ 0x05 ∷ 0x00 ∷ 0x06 ∷ 0x30 ∷ 0x31 ∷ 0x32 ∷ 0x33 ∷ 0x34 ∷ 0x35 ∷ 0x36 ∷ []
 
 -- 17 octets: begun in the second frame, ended with the third
 abbrev pub second : List ℕ
@@ -42,25 +46,25 @@ third = 0x01 ∷ 0x23 ∷ 0xC0 ∷ 0x07 ∷ 0x00 ∷ 0x0D ∷ 0x70 ∷ 0x71 ∷ 
 abbrev pub fourth : List ℕ
 fourth = 0x01 ∷ 0x24 ∷ 0xC0 ∷ 0x08 ∷ 0x00 ∷ 0x01 ∷ 0x90 ∷ 0x91 ∷ []
 
--- an idle packet of the seventh frame
-abbrev pub filler : List ℕ
-filler = 0x07 ∷ 0xFF ∷ 0xC0 ∷ 0x00 ∷ 0x00 ∷ 0x00 ∷ 0x55 ∷ []
-
 -- the least packet, 7 octets of the seventh frame
 abbrev pub fifth : List ℕ
 fifth = 0x01 ∷ 0x25 ∷ 0xC0 ∷ 0x09 ∷ 0x00 ∷ 0x00 ∷ 0xA0 ∷ []
 
+-- another one, behind it in the same frame
+abbrev pub sixth : List ℕ
+sixth = 0x01 ∷ 0x23 ∷ 0xC0 ∷ 0x0A ∷ 0x00 ∷ 0x00 ∷ 0xB0 ∷ []
+
 -- the packets that the sender lays end to end
 abbrev pub laidPackets : List (List ℕ)
-laidPackets = first ∷ second ∷ third ∷ fourth ∷ filler ∷ fifth ∷ []
+laidPackets = filler ∷ first ∷ second ∷ third ∷ fourth ∷ fifth ∷ sixth ∷ []
 
--- count 254: two octets of the tail, then the first packet at place 2
+-- count 254: two octets of the tail, then the idle packet at place 2, and the beginning of the first
 abbrev pub frame1 : List ℕ
-frame1 = 0x0A ∷ 0xB6 ∷ 0x40 ∷ 0xFE ∷ 0x18 ∷ 0x02 ∷ 0x11 ∷ 0x22 ∷ 0x01 ∷ 0x23 ∷ 0xC0 ∷ 0x05 ∷ 0x00 ∷ 0x0D ∷ 0x30 ∷ 0x31 ∷ 0x32 ∷ 0x33 ∷ 0x34 ∷ 0x35 ∷ []
+frame1 = 0x0A ∷ 0xB6 ∷ 0x40 ∷ 0xFE ∷ 0x18 ∷ 0x02 ∷ 0x11 ∷ 0x22 ∷ 0x07 ∷ 0xFF ∷ 0xC0 ∷ 0x00 ∷ 0x00 ∷ 0x00 ∷ 0x55 ∷ 0x01 ∷ 0x23 ∷ 0xC0 ∷ 0x05 ∷ 0x00 ∷ []
 
 -- count 255, with a secondary header of three octets, so D = 11: the second packet at place 8
 abbrev pub frame2 : List ℕ
-frame2 = 0x0A ∷ 0xB6 ∷ 0x42 ∷ 0xFF ∷ 0x98 ∷ 0x08 ∷ 0x02 ∷ 0xE1 ∷ 0xE2 ∷ 0x36 ∷ 0x37 ∷ 0x38 ∷ 0x39 ∷ 0x3A ∷ 0x3B ∷ 0x3C ∷ 0x3D ∷ 0x01 ∷ 0x24 ∷ 0xC0 ∷ []
+frame2 = 0x0A ∷ 0xB6 ∷ 0x42 ∷ 0xFF ∷ 0x98 ∷ 0x08 ∷ 0x02 ∷ 0xE1 ∷ 0xE2 ∷ 0x06 ∷ 0x30 ∷ 0x31 ∷ 0x32 ∷ 0x33 ∷ 0x34 ∷ 0x35 ∷ 0x36 ∷ 0x01 ∷ 0x24 ∷ 0xC0 ∷ []
 
 -- count 0: the rest of the second packet, and none starts
 abbrev pub frame3 : List ℕ
@@ -78,9 +82,9 @@ frame5 = 0x0A ∷ 0xB6 ∷ 0x45 ∷ 0x02 ∷ 0x18 ∷ 0x00 ∷ 0x01 ∷ 0x23 ∷
 abbrev pub frame6 : List ℕ
 frame6 = 0x0A ∷ 0xB6 ∷ 0x46 ∷ 0x03 ∷ 0x18 ∷ 0x06 ∷ 0x78 ∷ 0x79 ∷ 0x7A ∷ 0x7B ∷ 0x7C ∷ 0x7D ∷ 0x01 ∷ 0x24 ∷ 0xC0 ∷ 0x08 ∷ 0x00 ∷ 0x01 ∷ 0x90 ∷ 0x91 ∷ []
 
--- count 4: an idle packet and the last one
+-- count 4: the last two packets
 abbrev pub frame7 : List ℕ
-frame7 = 0x0A ∷ 0xB6 ∷ 0x47 ∷ 0x04 ∷ 0x18 ∷ 0x00 ∷ 0x07 ∷ 0xFF ∷ 0xC0 ∷ 0x00 ∷ 0x00 ∷ 0x00 ∷ 0x55 ∷ 0x01 ∷ 0x25 ∷ 0xC0 ∷ 0x09 ∷ 0x00 ∷ 0x00 ∷ 0xA0 ∷ []
+frame7 = 0x0A ∷ 0xB6 ∷ 0x47 ∷ 0x04 ∷ 0x18 ∷ 0x00 ∷ 0x01 ∷ 0x25 ∷ 0xC0 ∷ 0x09 ∷ 0x00 ∷ 0x00 ∷ 0xA0 ∷ 0x01 ∷ 0x23 ∷ 0xC0 ∷ 0x0A ∷ 0x00 ∷ 0x00 ∷ 0xB0 ∷ []
 
 -- the frames that the sender sends on channel 3
 abbrev pub frames : List (List ℕ)
@@ -107,16 +111,6 @@ broughtIn u tail ps came (f ∷ fs) (arrives out ∷ es) =
     brought u tail ps came f ∷ broughtIn u tail ps (came ++ replicate (carried u f) true) fs es
 broughtIn u tail ps came (f ∷ fs) (other u′ kept s out g ∷ es) = broughtIn u tail ps came (f ∷ fs) es
 
--- the same, only the packets that are due
-unfoldable pub wantedIn : List (List (List ℕ)) → List (List (List ℕ))
-wantedIn [] = []
-wantedIn (b ∷ bs) = wanted b ∷ wantedIn bs
-
--- the same, only the idle ones
-unfoldable pub unwantedIn : List (List (List ℕ)) → List (List (List ℕ))
-unwantedIn [] = []
-unwantedIn (b ∷ bs) = unwanted b ∷ unwantedIn bs
-
 -- the output that each arrival leaves, with record and store kept between calls
 abbrev pub outputsOf : SetUp → Record → List ℕ → List (List ℕ) → List Event → List (List ℕ)
 outputsOf u rec store fs [] = []
@@ -128,20 +122,26 @@ outputsOf u rec store (f ∷ fs) (other u′ true s out g ∷ es) =
     outputsOf u (recordOf u′ rec store out g) (storeOf u′ rec store out g) (f ∷ fs) es
 outputsOf u rec store (f ∷ fs) (other u′ false s out g ∷ es) = outputsOf u (recordOf u′ rec s out g) store (f ∷ fs) es
 
+-- what is due in each of the six arrivals
+abbrev pub dueTable : List (List (List ℕ))
+dueTable = [] ∷ (first ∷ []) ∷ (second ∷ []) ∷ [] ∷ (fourth ∷ []) ∷ (fifth ∷ sixth ∷ []) ∷ []
+
+-- the idle packets that end in each
+abbrev pub idleTable : List (List (List ℕ))
+idleTable = (filler ∷ []) ∷ [] ∷ [] ∷ [] ∷ [] ∷ [] ∷ []
+
 -- the claim over a store, the outputs, one that is too short and a store of another length
 pub record Witness (store : List ℕ) (out : ℕ → List ℕ) (short store′ : List ℕ) : Type 0 where
   -- the conditions of demand 3 are met
   pub whole : AllWhole laidPackets
   pub sends : Sends ours 3 254 (streamOf earlier laidPackets) frames
   pub allowed : Allowed ours 3 freshRecord store false 0 frames (history out short store′)
-  -- what is due in each of the six arrivals, and which idle packet ends there
-  pub due : wantedIn (broughtIn ours earlier laidPackets [] frames (history out short store′))
-      ≡ [] ∷ (first ∷ []) ∷ (second ∷ []) ∷ [] ∷ (fourth ∷ []) ∷ (fifth ∷ []) ∷ []
-  pub idle : unwantedIn (broughtIn ours earlier laidPackets [] frames (history out short store′))
-      ≡ [] ∷ [] ∷ [] ∷ [] ∷ [] ∷ (filler ∷ []) ∷ []
+  -- the tables, by computation
+  pub due : map wanted (broughtIn ours earlier laidPackets [] frames (history out short store′)) ≡ dueTable
+  pub idle : map unwanted (broughtIn ours earlier laidPackets [] frames (history out short store′)) ≡ idleTable
   -- so these octets stand in the outputs
   pub hands : outputsOf ours freshRecord store frames (history out short store′)
-      ≡ out 1 ∷ laid (out 3) 0 first ∷ laid (out 4) 0 second ∷ out 5 ∷ laid (out 8) 0 fourth ∷ laid (out 9) 0 fifth ∷ []
+      ≡ out 1 ∷ laid (out 3) 0 first ∷ laid (out 4) 0 second ∷ out 5 ∷ laid (out 8) 0 fourth ∷ laid (out 9) 0 (fifth ++ sixth) ∷ []
 
 -- for every store of 32,768 octets and all outputs of at least 6,144
 abbrev pub Demand3-met : Type 0

@@ -25,7 +25,7 @@ use Rattle.writer.proofs.FieldLaws.{points-well, nothing-exactly, left-
 use Rattle.writer.proofs.FrameLaws.{around, closed-around}
 use Rattle.writer.proofs.LayingLaws.{length-field, length-run}
 use Rattle.writer.proofs.NumberLaws.{case-back, number-one}
-use Rattle.writer.proofs.WritingSteps.{Carried, at-border, none-left, border-passes, passed, passing}
+use Rattle.writer.proofs.WritingSteps.{at-border, none-left, border-passes, passed, passing}
 
 pub number-exactly : Number-exactly
 unfolding answerOf valuesOf
@@ -51,13 +51,13 @@ refused-untouched u channel p w run out r e =
     (first-gives (λ _. p) (nextPlace u p w run) t r f, first-gives (λ _. out) (frameWritten u channel p w run) t r f)
 
 module _ (u : SetUp) (channel : ℕ) (p : Place) (run out : List ℕ) (e : answerOf u channel p run out ≡ Frame) where
-  tested : Carried u channel run × Ready u channel p run out × (row24 (length run) (p .offset) (p .«left_over») ≡ false)
+  tested : Ready u channel p run out × (row24 (length run) (p .offset) (p .«left_over») ≡ false)
   tested = passing u channel p run out (written-exactly u channel p run out .0 e)
 
 pub written-opens : Written-opens
 unfolding frameWritten
 written-opens u channel p w run out e hm hk hw =
-    let r = tested u channel p run out e .1 in
+    let r = tested u channel p run out e .0 in
     let D = closeSize u w in
     let field = laidField u w run p in
     let q = laidPointer u w run p in
@@ -70,7 +70,7 @@ written-opens u channel p w run out e hm hk hw =
 
 pub laid-well : Laid-well
 laid-well u channel p w run out e =
-    let r = tested u channel p run out e .1 in
+    let r = tested u channel p run out e .0 in
     let D = closeSize u w in
     let some = sizes u w (r .fits) .1 in
     record {
@@ -93,15 +93,15 @@ pub goes-on : Goes-on
 unfolding nextPlace answerOf
 goes-on u channel p w run out e =
     let t = tested u channel p run out e in
-    let r = t .1 in
+    let r = t .0 in
     let D = closeSize u w in
     let n : ℕ = length (runPart D run (p .offset) (p .«left_over»)) in
     let l = left-then D run (p .offset) (p .«left_over») (sizes u w (r .fits) .1) (r .left-fits) (r .inside) in
     let inside : p .offset + n ≤ length run = omega (arith, r .inside, length-run D run (p .offset) (p .«left_over»)) in
     record {
       next-passes = none-gives Refused Frame (writeTable u channel (nextPlace u p w run) run out)
-          (passed u channel (nextPlace u p w run) run out (t .0) inside
-          (handed-passes (length run) (p .offset) (p .«left_over») n (leftOverAfter D run (p .offset) (p .«left_over»)) (t .2) (l .0) (l .1))
+          (passed u channel (nextPlace u p w run) run out (r .fits) (r .channel-fits) (r .run-fits) (r .chain) inside
+          (handed-passes (length run) (p .offset) (p .«left_over») n (leftOverAfter D run (p .offset) (p .«left_over»)) (t .1) (l .0) (l .1))
           (r .output-whole));
       not-back = omega arith;
       inside = inside;

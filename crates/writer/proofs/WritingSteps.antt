@@ -6,7 +6,7 @@ use mathlib.Core.List.{List}
 use mathlib.Core.Logic.{_⊎_, inl, inr}
 use Prim.Native.Nat.{ℕ, _≤_, _<_}
 use lib.Dec.{eqb, ltb}
-use lib.ListN.{length, drop}
+use lib.ListN.{length}
 use borrow.Author.Tests.{eq-eqb, ne-eqb, lt-ltb, le-ltb, not-false, ltb-true, ltb-false, eqb-true}
 use Rattle.packet.specs.Chain.{chainOf}
 use Rattle.frame.specs.Closing.{row20, row25}
@@ -71,13 +71,6 @@ module _ (end offset left : ℕ) where
   border-passes h (inl e) = rw (le-ltb 6 left h, eq-eqb offset 0 e) (and-none (not (eqb left 0)))
   border-passes h (inr e) = rw (le-ltb 6 left h, eq-eqb offset end e, and-none (not (eqb offset 0))) (and-none (not (eqb left 0)))
 
--- what rows 1 and 20 to 22 leave
-pub record Carried (u : SetUp) (channel : ℕ) (run : List ℕ) : Type 0 where
-  pub fits : fitsOf u ≡ true
-  pub channel-fits : channel < 8
-  pub run-fits : length run ≤ 65536
-  pub chain : chainOf run ≡ true
-
 -- the first cause
 module _ (u : SetUp) (channel : ℕ) (p : Place) (run out : List ℕ) where
   pub outside : fitsOf u ≡ false → First (writeTable u channel p run out) SetUpRange
@@ -94,71 +87,53 @@ module _ (u : SetUp) (channel : ℕ) (p : Place) (run out : List ℕ) where
       unfolding writeTable row1 row20 row21
       too-long c = inr (rw a, inr (rw (lt-ltb channel 8 b), inl (refl, lt-ltb 65536 (length run) c)))
 
-      pub no-chain : length run ≤ 65536 → chainOf run ≡ false → First (writeTable u channel p run out) NotAChain
-      unfolding writeTable row1 row20 row21 row22
-      no-chain c d = inr (rw a, inr (rw (lt-ltb channel 8 b), inr (le-ltb 65536 (length run) c, inl (refl, rw d))))
+      module _ (c : length run ≤ 65536) where
+        pub no-chain : chainOf run ≡ false → First (writeTable u channel p run out) NotAChain
+        unfolding writeTable row1 row20 row21 row22
+        no-chain d = inr (rw a, inr (rw (lt-ltb channel 8 b), inr (le-ltb 65536 (length run) c, inl (refl, rw d))))
 
-  module _ (t : Carried u channel run) where
-    carried : (r : Refusal) → First (drop 4 (writeTable u channel p run out)) r → First (writeTable u channel p run out) r
-    unfolding writeTable row1 row20 row21 row22
-    carried r f =
-        inr (rw (t .fits), inr (rw (lt-ltb channel 8 (t .channel-fits)), inr (le-ltb 65536 (length run) (t .run-fits), inr (rw (t .chain), f))))
+        module _ (d : chainOf run ≡ true) where
+          pub past : length run < p .offset → First (writeTable u channel p run out) OffsetPast
+          unfolding writeTable row1 row20 row21 row22 row23
+          past e = inr (rw a, inr (rw (lt-ltb channel 8 b), inr (le-ltb 65536 (length run) c, inr (rw d, inl (refl, lt-ltb (length run) (p .offset) e)))))
 
-    pub past : length run < p .offset → First (writeTable u channel p run out) OffsetPast
-    unfolding writeTable row23
-    past e = carried OffsetPast (inl (refl, lt-ltb (length run) (p .offset) e))
+          module _ (e : p .offset ≤ length run) where
+            pub bad-left : row24 (length run) (p .offset) (p .«left_over») ≡ true → First (writeTable u channel p run out) LeftOver
+            unfolding writeTable row1 row20 row21 row22 row23
+            bad-left f =
+                inr (rw a, inr (rw (lt-ltb channel 8 b), inr (le-ltb 65536 (length run) c, inr (rw d, inr (le-ltb (length run) (p .offset) e, inl (refl, f))))))
 
-    module _ (e : p .offset ≤ length run) where
-      pub bad-left : row24 (length run) (p .offset) (p .«left_over») ≡ true → First (writeTable u channel p run out) LeftOver
-      unfolding writeTable row23
-      bad-left f = carried LeftOver (inr (le-ltb (length run) (p .offset) e, inl (refl, f)))
+            module _ (f : row24 (length run) (p .offset) (p .«left_over») ≡ false) where
+              pub other-length : (length out ≡ u .length → ⊥) → First (writeTable u channel p run out) OutputLength
+              unfolding writeTable row1 row20 row21 row22 row23 row25
+              other-length g =
+                  inr (rw a, inr (rw (lt-ltb channel 8 b), inr (le-ltb 65536 (length run) c, inr (rw d, inr (le-ltb (length run) (p .offset) e, inr (f, inl (refl, rw (ne-eqb (length out) (u .length) g))))))))
 
-      module _ (f : row24 (length run) (p .offset) (p .«left_over») ≡ false) where
-        pub other-length : (length out ≡ u .length → ⊥) → First (writeTable u channel p run out) OutputLength
-        unfolding writeTable row23 row25
-        other-length g =
-            carried OutputLength (inr (le-ltb (length run) (p .offset) e, inr (f, inl (refl, rw (ne-eqb (length out) (u .length) g)))))
+              pub ready : length out ≡ u .length → Ready u channel p run out
+              ready g =
+                  record {
+                    fits = a;
+                    channel-fits = b;
+                    run-fits = c;
+                    chain = d;
+                    inside = e;
+                    left-fits = few-left (length run) (p .offset) (p .«left_over») f;
+                    output-whole = g;
+                  }
 
-        pub passed : length out ≡ u .length → None (writeTable u channel p run out)
-        unfolding writeTable row1 row20 row21 row22 row23 row25
-        passed g = (
-          rw (t .fits),
-          (
-            rw (lt-ltb channel 8 (t .channel-fits)),
-            (
-              le-ltb 65536 (length run) (t .run-fits),
-              (
-                rw (t .chain),
-                (le-ltb (length run) (p .offset) e, (f, (rw (eq-eqb (length out) (u .length) g), tt))),
-              ),
-            ),
-          ),
-        )
-
-        pub ready : length out ≡ u .length → Ready u channel p run out
-        ready g =
-            record {
-              fits = t .fits;
-              channel-fits = t .channel-fits;
-              run-fits = t .run-fits;
-              chain = t .chain;
-              inside = e;
-              left-fits = few-left (length run) (p .offset) (p .«left_over») f;
-              output-whole = g;
-            }
+              pub passed : length out ≡ u .length → None (writeTable u channel p run out)
+              unfolding writeTable row1 row20 row21 row22 row23 row25
+              passed g = (rw a, (rw (lt-ltb channel 8 b), (le-ltb 65536 (length run) c, (rw d, (le-ltb (length run) (p .offset) e, (f, (rw (eq-eqb (length out) (u .length) g), tt)))))))
 
   -- what holds where no cause does
-  pub passing : None (writeTable u channel p run out) → Carried u channel run × Ready u channel p run out × (row24 (length run) (p .offset) (p .«left_over») ≡ false)
+  pub passing : None (writeTable u channel p run out) → Ready u channel p run out × (row24 (length run) (p .offset) (p .«left_over») ≡ false)
   unfolding writeTable row1 row20 row21 row22 row23 row25
-  passing n =
-      let t : Carried u channel run = record {
-        fits = not-false _ (n .0);
-        channel-fits = ltb-true channel 8 (not-false _ (n .1 .0));
-        run-fits = ltb-false 65536 (length run) (n .1 .1 .0);
-        chain = not-false _ (n .1 .1 .1 .0);
-      } in
-      let f = n .1 .1 .1 .1 .1 .0 in
-      (t, ready t (ltb-false (length run) (p .offset) (n .1 .1 .1 .1 .0)) f (eqb-true (length out) (u .length) (not-false _ (n .1 .1 .1 .1 .1 .1 .0))), f)
+  passing n = (
+    ready (not-false _ (n .0)) (ltb-true channel 8 (not-false _ (n .1 .0))) (ltb-false 65536 (length run) (n .1 .1 .0))
+        (not-false _ (n .1 .1 .1 .0)) (ltb-false (length run) (p .offset) (n .1 .1 .1 .1 .0)) (n .1 .1 .1 .1 .1 .0)
+        (eqb-true (length out) (u .length) (not-false _ (n .1 .1 .1 .1 .1 .1 .0))),
+    n .1 .1 .1 .1 .1 .0,
+  )
 
   -- the answer, and what is left
   module _ (w : ControlWord) where

@@ -1,27 +1,12 @@
 -- `writer::write` meets its contract: the first cause found, else the frame.
 -- Assumes nothing.
-use mathlib.Core.Path.{_≡_, _∙_, sym}
-use mathlib.Core.Bool.{true}
-use Rattle.frame.specs.SetUp.{fitsOf}
+use mathlib.Core.Path.{_∙_, sym}
 use borrow.Author.Tests.{not-true, not-false}
 use Rattle.writer.specs.declared.writing.Refusal.the-variants.{SetUpRange, ChannelAbove, RunLength, NotAChain, OffsetPast, LeftOver, OutputLength}
-use Rattle.writer.proofs.WritingSteps.{Carried, outside, above, too-long, no-chain, past, bad-left, other-length, passed, ready, refused, written}
+use Rattle.writer.proofs.WritingSteps.{outside, above, too-long, no-chain, past, bad-left, other-length, passed, ready, refused, written}
 use borrow.Author.Needs.{needs}
 use Rattle.writer.proofs.writing.write.Statement.{statement}
 use Rattle.writer.proofs.writing.write.Tie as tie
-
--- what the tests so far leave
-fitted : (c : tie.Else1) → fitsOf (c .before .before .before .before .args .set) ≡ true
-fitted c = sym (c .before .fits2 .ensures) ∙ not-false _ (c .if1 .left)
-
-tested : (c : tie.Else4) → let a = c .before .before .before .before .before .before .before .before .args in Carried (a .set) (a .channel) (a .run .now)
-tested c =
-    record {
-      fits = fitted (c .before .before .before .before);
-      channel-fits = search needs;
-      run-fits = search needs;
-      chain = sym (c .before .is-chain .ensures) ∙ not-false _ (c .if4 .left);
-    }
 
 fits-requires : tie.Need-fits-requires
 fits-requires c κs = search needs
@@ -36,13 +21,13 @@ refused-requires-2 : tie.Need-refused-requires-2
 refused-requires-2 c κs = search needs
 
 returns-2 : tie.Need-returns-2
-returns-2 c = refused _ _ _ _ _ _ ChannelAbove _ (above _ _ _ _ _ (fitted (c .before .before)) (c .before .if2 .taken)) (c .refused2 .ensures)
+returns-2 c = refused _ _ _ _ _ _ ChannelAbove _ (above _ _ _ _ _ (sym (c .before .before .before .fits2 .ensures) ∙ not-false _ (c .before .before .if1 .left)) (c .before .if2 .taken)) (c .refused2 .ensures)
 
 refused-requires-3 : tie.Need-refused-requires-3
 refused-requires-3 c κs = search needs
 
 returns-3 : tie.Need-returns-3
-returns-3 c = refused _ _ _ _ _ _ RunLength _ (too-long _ _ _ _ _ (fitted (c .before .before .before)) (c .before .before .if2 .left) (c .before .if3 .taken)) (c .refused3 .ensures)
+returns-3 c = refused _ _ _ _ _ _ RunLength _ (too-long _ _ _ _ _ (sym (c .before .before .before .before .fits2 .ensures) ∙ not-false _ (c .before .before .before .if1 .left)) (c .before .before .if2 .left) (c .before .if3 .taken)) (c .refused3 .ensures)
 
 is-chain-requires : tie.Need-is-chain-requires
 is-chain-requires c κs = search needs
@@ -51,15 +36,13 @@ refused-requires-4 : tie.Need-refused-requires-4
 refused-requires-4 c κs = search needs
 
 returns-4 : tie.Need-returns-4
-returns-4 c = refused _ _ _ _ _ _ NotAChain _
-    (no-chain _ _ _ _ _ (fitted (c .before .before .before .before .before)) (c .before .before .before .before .if2 .left) (c .before .before .before .if3 .left) (sym (c .before .before .is-chain .ensures) ∙ not-true _ (c .before .if4 .taken)))
-    (c .refused4 .ensures)
+returns-4 c = refused _ _ _ _ _ _ NotAChain _ (no-chain _ _ _ _ _ (sym (c .before .before .before .before .before .before .fits2 .ensures) ∙ not-false _ (c .before .before .before .before .before .if1 .left)) (c .before .before .before .before .if2 .left) (c .before .before .before .if3 .left) (sym (c .before .before .is-chain .ensures) ∙ not-true _ (c .before .if4 .taken))) (c .refused4 .ensures)
 
 refused-requires-5 : tie.Need-refused-requires-5
 refused-requires-5 c κs = search needs
 
 returns-5 : tie.Need-returns-5
-returns-5 c = refused _ _ _ _ _ _ OffsetPast _ (past _ _ _ _ _ (tested (c .before .before .before)) (c .before .if5 .taken)) (c .refused5 .ensures)
+returns-5 c = refused _ _ _ _ _ _ OffsetPast _ (past _ _ _ _ _ (sym (c .before .before .before .before .before .before .before .before .fits2 .ensures) ∙ not-false _ (c .before .before .before .before .before .before .before .if1 .left)) (c .before .before .before .before .before .before .if2 .left) (c .before .before .before .before .before .if3 .left) (sym (c .before .before .before .before .is-chain .ensures) ∙ not-false _ (c .before .before .before .if4 .left)) (c .before .if5 .taken)) (c .refused5 .ensures)
 
 bad-left-over-requires : tie.Need-bad-left-over-requires
 bad-left-over-requires c κs = search needs
@@ -68,27 +51,22 @@ refused-requires-6 : tie.Need-refused-requires-6
 refused-requires-6 c κs = search needs
 
 returns-6 : tie.Need-returns-6
-returns-6 c = refused _ _ _ _ _ _ LeftOver _
-    (bad-left _ _ _ _ _ (tested (c .before .before .before .before .before)) (c .before .before .before .if5 .left) (sym (c .before .before .bad-left-over .ensures) ∙ c .before .if6 .taken))
-    (c .refused6 .ensures)
+returns-6 c = refused _ _ _ _ _ _ LeftOver _ (bad-left _ _ _ _ _ (sym (c .before .before .before .before .before .before .before .before .before .before .fits2 .ensures) ∙ not-false _ (c .before .before .before .before .before .before .before .before .before .if1 .left)) (c .before .before .before .before .before .before .before .before .if2 .left) (c .before .before .before .before .before .before .before .if3 .left) (sym (c .before .before .before .before .before .before .is-chain .ensures) ∙ not-false _ (c .before .before .before .before .before .if4 .left)) (c .before .before .before .if5 .left) (sym (c .before .before .bad-left-over .ensures) ∙ c .before .if6 .taken)) (c .refused6 .ensures)
 
 refused-requires-7 : tie.Need-refused-requires-7
 refused-requires-7 c κs = search needs
 
 returns-7 : tie.Need-returns-7
-returns-7 c = refused _ _ _ _ _ _ OutputLength _
-    (other-length _ _ _ _ _ (tested (c .before .before .before .before .before .before .before)) (c .before .before .before .before .before .if5 .left) (sym (c .before .before .before .before .bad-left-over .ensures) ∙ c .before .before .before .if6 .left) (c .before .if7 .taken))
-    (c .refused7 .ensures)
+returns-7 c = refused _ _ _ _ _ _ OutputLength _ (other-length _ _ _ _ _ (sym (c .before .before .before .before .before .before .before .before .before .before .before .before .fits2 .ensures) ∙ not-false _ (c .before .before .before .before .before .before .before .before .before .before .before .if1 .left)) (c .before .before .before .before .before .before .before .before .before .before .if2 .left) (c .before .before .before .before .before .before .before .before .before .if3 .left) (sym (c .before .before .before .before .before .before .before .before .is-chain .ensures) ∙ not-false _ (c .before .before .before .before .before .before .before .if4 .left)) (c .before .before .before .before .before .if5 .left) (sym (c .before .before .before .before .bad-left-over .ensures) ∙ c .before .before .before .if6 .left) (c .before .if7 .taken)) (c .refused7 .ensures)
 
 write-frame-requires : tie.Need-write-frame-requires
-write-frame-requires c κs = ready _ _ _ _ _ (tested (c .before .before .before .before .before .before .before)) (c .before .before .before .before .before .if5 .left) (sym (c .before .before .before .before .bad-left-over .ensures) ∙ c .before .before .before .if6 .left) (c .before .if7 .left)
+write-frame-requires c κs = ready _ _ _ _ _ (sym (c .before .before .before .before .before .before .before .before .before .before .before .before .fits2 .ensures) ∙ not-false _ (c .before .before .before .before .before .before .before .before .before .before .before .if1 .left)) (c .before .before .before .before .before .before .before .before .before .before .if2 .left) (c .before .before .before .before .before .before .before .before .before .if3 .left) (sym (c .before .before .before .before .before .before .before .before .is-chain .ensures) ∙ not-false _ (c .before .before .before .before .before .before .before .if4 .left)) (c .before .before .before .before .before .if5 .left) (sym (c .before .before .before .before .bad-left-over .ensures) ∙ c .before .before .before .if6 .left) (c .before .if7 .left)
 
 same-length : tie.Need-same-length
 same-length c = search needs
 
 returns-8 : tie.Need-returns-8
-returns-8 c = written _ _ _ _ _ _ _ _ _
-    (passed _ _ _ _ _ (tested (c .before .before .before .before .before .before .before .before .before .before)) (c .before .before .before .before .before .before .before .before .if5 .left) (sym (c .before .before .before .before .before .before .before .bad-left-over .ensures) ∙ c .before .before .before .before .before .before .if6 .left) (c .before .before .before .before .if7 .left))
+returns-8 c = written _ _ _ _ _ _ _ _ _ (passed _ _ _ _ _ (sym (c .before .before .before .before .before .before .before .before .before .before .before .before .before .before .before .fits2 .ensures) ∙ not-false _ (c .before .before .before .before .before .before .before .before .before .before .before .before .before .before .if1 .left)) (c .before .before .before .before .before .before .before .before .before .before .before .before .before .if2 .left) (c .before .before .before .before .before .before .before .before .before .before .before .before .if3 .left) (sym (c .before .before .before .before .before .before .before .before .before .before .before .is-chain .ensures) ∙ not-false _ (c .before .before .before .before .before .before .before .before .before .before .if4 .left)) (c .before .before .before .before .before .before .before .before .if5 .left) (sym (c .before .before .before .before .before .before .before .bad-left-over .ensures) ∙ c .before .before .before .before .before .before .if6 .left) (c .before .before .before .before .if7 .left))
     (c .before .before .write-frame .ensures)
 
 pub write-spec : {M : Type 1} → statement M

@@ -1,0 +1,196 @@
+-- How far the writer's calls come: the offset never goes back, each call before the run's end comes on by at least one octet, and the frames
+-- carry the left-over and the run as far as the offset has come.
+-- Assumes nothing.
+use mathlib.Core.Path.{_≡_, refl, _∙_, ap}
+use mathlib.Core.Bool.{Bool, true, false}
+use mathlib.Core.List.{List, [], _∷_}
+use mathlib.Core.Logic.{_⊎_, inl, inr}
+use Prim.Native.Nat.{ℕ, _+_, _-_, _≤_, _<_, _^_, min}
+use native.Mathlib.Decide.{ℕ-discrete}
+use native.Mathlib.Omega.{arith}
+use lib.ListN.{length}
+use Rattle.packet.specs.Chain.{distanceOf}
+use Rattle.frame.specs.Closing.{closeSize}
+use Rattle.frame.specs.Theorems.{wordNumber}
+use Rattle.frame.specs.declared.closing.ControlWord.{ControlWord}
+use Rattle.frame.specs.declared.set_up.SetUp.{SetUp}
+use Rattle.writer.specs.Laying.{leftPart, runPart, placedPart, leftAfter, leftOverAfter, nothingOf}
+use Rattle.writer.specs.Writing.{nextOf, nextPlace, outputOf, frameWritten}
+use Rattle.writer.specs.declared.writing.Place.{Place}
+use Rattle.writer.proofs.Laws.{laid-well}
+use Rattle.writer.proofs.LayingLaws.{length-left, length-run, length-placed, none-after}
+use Rattle.demands.specs.Demand2.{Writing, Fair, frames, placeAfter}
+use Rattle.demands.specs.History.{carried}
+use Rattle.demands.specs.Sender.{Octets}
+use Rattle.demands.proofs.AllOut.{total, total-more}
+use Rattle.demands.proofs.Calls.{carried-all}
+use Rattle.demands.proofs.Hears.{not-idle}
+use Rattle.demands.proofs.Places.{Writes, few, answers, next-is, output-is, next-writes}
+use Rattle.demands.proofs.Sending.{pointer-some, nothing-says, size-most}
+use Rattle.demands.proofs.Written.{openedTo, sent}
+
+-- one call, in numbers: from offset o with l octets left over of a run of k octets, a field of D octets takes a of the left-over and b of the
+-- run, n in all, and the filler leaves `over`
+pub record Turn (D k o l a b n over o′ l′ : ℕ) : Type 0 where
+  pub some : 1 ≤ D
+  pub inside : o ≤ k
+  pub of-left : a ≡ min l D
+  pub of-run : b ≡ min (k - o) (D - a)
+  pub in-all : n ≡ a + b
+  pub no-room : D - n ≡ 0 → over ≡ 0
+  pub next-offset : o′ ≡ o + b
+  pub next-left : l′ ≡ l - a + over
+
+module _ {D k o l a b n over o′ l′ : ℕ} (t : Turn D k o l a b n over o′ l′) where
+  within : o′ ≤ k
+  within =
+      let h = t .inside in
+      let e = t .of-run in
+      let i : b ≤ k - o = omega arith in
+      omega (arith, t .next-offset)
+
+  -- before the run's end the field is full
+  full : (o′ ≡ k → ⊥) → n ≡ D
+  full h =
+      let e = t .next-offset in
+      let i = t .inside in
+      let r = t .of-run in
+      let j : b < k - o = let y : b ≤ k - o = omega arith in omega arith in
+      let z : b ≡ D - a = omega arith in
+      let y : a ≤ D = omega (arith, t .of-left) in
+      omega (arith, t .in-all)
+
+  comes-on : (o′ ≡ k → ⊥) → l′ + (k - o′) + 1 ≤ l + (k - o)
+  comes-on h =
+      let f = full h in
+      let z : over ≡ 0 = t .no-room (omega arith) in
+      let w = within in
+      let c = t .in-all in
+      let d = t .next-left in
+      let e = t .next-offset in
+      let g = t .some in
+      let i : a ≤ l = omega (arith, t .of-left) in
+      comes-plain k o l a b o′ l′ w e (d ∙ ap (λ (x : ℕ). l - a + x) z ∙ plain-zero (l - a)) i (omega arith)
+    where
+      plain-zero : (x : ℕ) → x + 0 ≡ x
+      plain-zero x = omega arith
+
+      comes-plain : (k o l a b o′ l′ : ℕ) → o′ ≤ k → o′ ≡ o + b → l′ ≡ l - a → a ≤ l → 1 ≤ a + b → l′ + (k - o′) + 1 ≤ l + (k - o)
+      comes-plain k o l a b o′ l′ w e d i g = omega arith
+
+  -- c octets are carried: D, or none if nothing is placed
+  reaches : (c E T : ℕ) → (c ≡ D) ⊎ ((l ≡ 0) × (b ≡ 0)) → (E ≡ o′) ⊎ (l′ + E ≤ T + o′) → (E ≡ o) ⊎ (l + E ≤ c + T + o)
+  reaches c E T (inl e) r = go (ℕ-discrete b 0) r
+    where
+      less : l ≤ D + l′
+      less =
+          let i : l ≤ D + (l - a) = let y : a ≤ D = omega (arith, t .of-left) in omega arith in
+          omega (arith, t .next-left)
+
+      room : (b ≡ 0 → ⊥) → l + b ≤ D
+      room z =
+          let r = t .of-run in
+          let y : 1 ≤ D - a = omega arith in
+          let x : a ≡ l = let w = t .of-left in omega arith in
+          let w : b ≤ D - a = omega arith in
+          omega arith
+
+      go : Dec (b ≡ 0) → (E ≡ o′) ⊎ (l′ + E ≤ T + o′) → (E ≡ o) ⊎ (l + E ≤ c + T + o)
+      go (yes z) (inl q) = inl (omega (arith, t .next-offset))
+      go (yes z) (inr q) = inr (let y = t .next-offset in let x = less in omega arith)
+      go (no z) (inl q) = inr (let y = t .next-offset in let x = room z in omega arith)
+      go (no z) (inr q) = inr (let y = t .next-offset in let x = room z in omega arith)
+  reaches c E T (inr e) (inl q) = inl (let y = t .next-offset in omega arith)
+  reaches c E T (inr e) (inr q) = inr (let y = t .next-offset in omega arith)
+
+-- one call
+module _ {u : SetUp} {v : ℕ} {run : List ℕ} {p : Place} (s : Writes u v run p) (w : ControlWord) (out : List ℕ) (e : length out ≡ u .length) where
+  turn-place : Turn (closeSize u w) (length run) (p .offset) (p .«left_over») (length (leftPart (closeSize u w) (p .«left_over»)))
+      (length (runPart (closeSize u w) run (p .offset) (p .«left_over»))) (length (placedPart (closeSize u w) run (p .offset) (p .«left_over»)))
+      (leftAfter (length (placedPart (closeSize u w) run (p .offset) (p .«left_over»)))
+      (closeSize u w - length (placedPart (closeSize u w) run (p .offset) (p .«left_over»))))
+      (nextPlace u p w run .offset) (nextPlace u p w run .«left_over»)
+  unfolding nextPlace leftOverAfter
+  turn-place =
+      record {
+        some = laid-well u v p w run out (answers s w out e) .some;
+        inside = s .inside;
+        of-left = length-left (closeSize u w) (p .«left_over») (few s);
+        of-run = length-run (closeSize u w) run (p .offset) (p .«left_over»);
+        in-all = length-placed (closeSize u w) run (p .offset) (p .«left_over»);
+        no-room = none-after (length (placedPart (closeSize u w) run (p .offset) (p .«left_over»)))
+            (closeSize u w - length (placedPart (closeSize u w) run (p .offset) (p .«left_over»)));
+        next-offset = refl;
+        next-left = refl;
+      }
+
+  turn : Turn (closeSize u w) (length run) (p .offset) (p .«left_over») (length (leftPart (closeSize u w) (p .«left_over»)))
+      (length (runPart (closeSize u w) run (p .offset) (p .«left_over»))) (length (placedPart (closeSize u w) run (p .offset) (p .«left_over»)))
+      (leftAfter (length (placedPart (closeSize u w) run (p .offset) (p .«left_over»)))
+      (closeSize u w - length (placedPart (closeSize u w) run (p .offset) (p .«left_over»))))
+      (nextOf u v p w run out .offset) (nextOf u v p w run out .«left_over»)
+  turn = rw (next-is s w out e) turn-place
+
+  carries : Octets run → wordNumber w < 2 ^ 32
+      → (carried u (outputOf u v p w run out) ≡ closeSize u w)
+      ⊎ ((p .«left_over» ≡ 0) × (length (runPart (closeSize u w) run (p .offset) (p .«left_over»)) ≡ 0))
+  carries real small = go (nothingOf run (p .offset) (p .«left_over»)) refl
+    where
+      go : (b : Bool) → nothingOf run (p .offset) (p .«left_over») ≡ b
+          → (carried u (outputOf u v p w run out) ≡ closeSize u w)
+          ⊎ ((p .«left_over» ≡ 0) × (length (runPart (closeSize u w) run (p .offset) (p .«left_over»)) ≡ 0))
+      go true z =
+          let y = nothing-says run (p .offset) (p .«left_over») z in
+          let r = length-run (closeSize u w) run (p .offset) (p .«left_over») in
+          let k : length run - p .offset ≡ 0 = omega arith in
+          inr (y .0, omega arith)
+      go false z =
+          let o = sent s real w out e small .opens in
+          inl
+          (ap (carried u) (output-is s w out e)
+          ∙ carried-all u (frameWritten u v p w run) (openedTo u v p w run) o
+          (not-idle (closeSize u w) (p .«left_over» + distanceOf run (p .offset)) _ (size-most u w (s .fits))
+          (pointer-some (closeSize u w) (distanceOf run (p .offset)) (p .«left_over») _ z)))
+
+-- all calls
+module _ {u : SetUp} {v : ℕ} {run : List ℕ} where
+  pub stays-within : (cs : List Writing) (p : Place) → Writes u v run p → Fair u cs
+      → (p .offset ≤ placeAfter u v run p cs .offset) × (placeAfter u v run p cs .offset ≤ length run)
+  unfolding placeAfter
+  stays-within [] p s f = (omega arith, s .inside)
+  stays-within (c ∷ cs) p s f =
+      let t = turn s (c .word) (c .out) (f .0) in
+      let on = stays-within cs (nextOf u v p (c .word) run (c .out)) (next-writes s (c .word) (c .out) (f .0)) (f .2) in
+      (omega (arith, t .next-offset), on .1)
+
+  pub gets-there : (cs : List Writing) (p : Place) → Writes u v run p → Fair u cs → p .«left_over» + (length run - p .offset) ≤ length cs
+      → placeAfter u v run p cs .offset ≡ length run
+  unfolding placeAfter
+  gets-there [] p s f h = let i = s .inside in omega arith
+  gets-there (c ∷ cs) p s f h =
+      let t = turn s (c .word) (c .out) (f .0) in
+      let q = nextOf u v p (c .word) run (c .out) in
+      let n = next-writes s (c .word) (c .out) (f .0) in
+      go (ℕ-discrete (q .offset) (length run)) (λ z. let y = comes-on t z in gets-there cs q n (f .2) (omega arith)) (stays-within cs q n (f .2))
+    where
+      q : Place
+      q = nextOf u v p (c .word) run (c .out)
+
+      go : Dec (q .offset ≡ length run) → ((q .offset ≡ length run → ⊥) → placeAfter u v run q cs .offset ≡ length run)
+          → (q .offset ≤ placeAfter u v run q cs .offset) × (placeAfter u v run q cs .offset ≤ length run)
+          → placeAfter u v run q cs .offset ≡ length run
+      go (yes z) on b = omega arith
+      go (no z) on b = on z
+
+  pub carries-all : Octets run → (cs : List Writing) (p : Place) → Writes u v run p → Fair u cs
+      → (placeAfter u v run p cs .offset ≡ p .offset)
+      ⊎ (p .«left_over» + placeAfter u v run p cs .offset ≤ total u (frames u v run p cs) + p .offset)
+  unfolding placeAfter frames
+  carries-all real [] p s f = inl refl
+  carries-all real (c ∷ cs) p s f =
+      let t = turn s (c .word) (c .out) (f .0) in
+      let q = nextOf u v p (c .word) run (c .out) in
+      rw (total-more u (outputOf u v p (c .word) run (c .out)) (frames u v run q cs))
+      (reaches t (carried u (outputOf u v p (c .word) run (c .out))) (placeAfter u v run q cs .offset) (total u (frames u v run q cs))
+      (carries s (c .word) (c .out) (f .0) real (f .1))
+      (carries-all real cs q (next-writes s (c .word) (c .out) (f .0)) (f .2)))

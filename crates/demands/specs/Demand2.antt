@@ -1,0 +1,110 @@
+-- Demand 2: frames that are written from a run of packets read back, in order and from a fresh record, to exactly the packets of the run that
+-- are not idle and have at most 4,096 octets. The proof is in proofs/Demand2.antt.
+use mathlib.Core.Path.{_≡_}
+use mathlib.Core.Bool.{Bool, true}
+use mathlib.Core.List.{List, [], _∷_, _++_, map}
+use Prim.Native.Nat.{ℕ, _+_, _-_, _*_, _^_, _≤_, _<_}
+use lib.Dec.{eqb, leb}
+use lib.ListN.{length, drop, replicate}
+use Rattle.octets.specs.Pick.{pick}
+use Rattle.packet.specs.Size.{most}
+use Rattle.packet.specs.Theorems.{AllWhole, endToEnd}
+use Rattle.frame.specs.Closing.{channels, closeSize}
+use Rattle.frame.specs.SetUp.{fitsOf, mostLength}
+use Rattle.frame.specs.Theorems.{wordNumber}
+use Rattle.frame.specs.declared.closing.ControlWord.{ControlWord}
+use Rattle.frame.specs.declared.set_up.SetUp.{SetUp}
+use Rattle.channel.specs.State.{freshRecord}
+use Rattle.channel.specs.declared.state.Record.{Record}
+use Rattle.reader.specs.Reading as read
+use Rattle.reader.specs.declared.reading.Answer.the-variants.{Accepted}
+use Rattle.reader.specs.declared.reading.Report.{Report}
+use Rattle.writer.specs.Laying.{idlePacket, placedPart, shortIdle}
+use Rattle.writer.specs.Writing as write
+use Rattle.writer.specs.declared.writing.Answer.the-variants.{Frame}
+use Rattle.writer.specs.declared.writing.Place.{Place}
+use Rattle.demands.specs.History.{arrives, Delivers, brought, carried, wanted}
+use Rattle.demands.specs.Sender.{Octets}
+
+-- a call of the writer: its control word, "as they please", and the output that it is lent
+pub record Writing : Type 0 where
+  pub word : ControlWord
+  pub out : List ℕ
+
+-- "each call given what the last one returned and the same run, channel and set-up": the frames, and where the writing then stands
+unfoldable pub frames : SetUp → ℕ → List ℕ → Place → List Writing → List (List ℕ)
+frames u v run p [] = []
+frames u v run p (c ∷ cs) =
+    write.outputOf u v p (c .word) run (c .out) ∷ frames u v run (write.nextOf u v p (c .word) run (c .out)) cs
+
+unfoldable pub placeAfter : SetUp → ℕ → List ℕ → Place → List Writing → Place
+placeAfter u v run p [] = p
+placeAfter u v run p (c ∷ cs) = placeAfter u v run (write.nextOf u v p (c .word) run (c .out)) cs
+
+-- no call is refused
+abbrev pub NoneRefused : SetUp → ℕ → List ℕ → Place → List Writing → Type 0
+NoneRefused u v run p [] = Unit {0}
+NoneRefused u v run p (c ∷ cs) =
+    (write.answerOf u v p run (c .out) ≡ Frame) × NoneRefused u v run (write.nextOf u v p (c .word) run (c .out)) cs
+
+-- the outputs have N octets, and a control word is a number of 32 bits
+abbrev pub Fair : SetUp → List Writing → Type 0
+Fair u [] = Unit {0}
+Fair u (c ∷ cs) = (length (c .out) ≡ u .length) × (wordNumber (c .word) < 2 ^ 32) × Fair u cs
+
+-- the filler packets that the calls begin: of exactly the room if that is 7 or more, else of 7 octets
+unfoldable pub fillerFor : ℕ → ℕ → List (List ℕ)
+fillerFor placed room = pick (eqb placed 0) [] (pick (eqb room 0) [] (pick (leb 7 room) (idlePacket room ∷ []) (shortIdle ∷ [])))
+
+unfoldable pub fillers : SetUp → ℕ → List ℕ → Place → List Writing → List (List ℕ)
+fillers u v run p [] = []
+fillers u v run p (c ∷ cs) =
+    let D : ℕ = closeSize u (c .word) in
+    let n : ℕ = length (placedPart D run (p .offset) (p .«left_over»)) in
+    fillerFor n (D - n) ++ fillers u v run (write.nextOf u v p (c .word) run (c .out)) cs
+
+-- what a reader is lent for each frame, and that each output passes test 3
+abbrev pub Roomy : List (List ℕ) → Type 0
+Roomy [] = Unit {0}
+Roomy (o ∷ os) = (most + mostLength ≤ length o) × Roomy os
+
+-- call by call: gap and broken stay 0
+abbrev pub Smooth : SetUp → Record → List ℕ → List (List ℕ) → List (List ℕ) → Type 0
+Smooth u rec store [] outs = Unit {0}
+Smooth u rec store (f ∷ fs) [] = Unit {0}
+Smooth u rec store (f ∷ fs) (o ∷ os) =
+    ((a : Report) → read.answerOf u rec store o f ≡ Accepted a → (a .gap ≡ 0) × (a .broken ≡ 0))
+    × Smooth u (read.recordOf u rec store o f) (read.storeOf u rec store o f) fs os
+
+-- the packets of at most 4,096 octets
+unfoldable pub fitting : List (List ℕ) → List (List ℕ)
+fitting [] = []
+fitting (p ∷ ps) = pick (leb (length p) most) (p ∷ fitting ps) (fitting ps)
+
+-- what is due in all the calls, one after the other, where every frame arrives
+unfoldable pub dueInAll : SetUp → List ℕ → List (List ℕ) → List Bool → List (List ℕ) → List (List ℕ)
+dueInAll u tail ps came [] = []
+dueInAll u tail ps came (f ∷ fs) =
+    wanted (brought u tail ps came f) ++ dueInAll u tail ps (came ++ replicate (carried u f) true) fs
+
+-- the frames of a run read back
+pub record ReadsBack (u : SetUp) (v : ℕ) (ps : List (List ℕ)) (p : Place) (cs : List Writing) (store : List ℕ) (outs : List (List ℕ)) : Type 0 where
+  -- no call of the writer is refused
+  pub written : NoneRefused u v (endToEnd ps) p cs
+  -- after at most left-over plus run-length calls the offset is at the run's end
+  pub gets-there : p .«left_over» + length (endToEnd ps) ≤ length cs → placeAfter u v (endToEnd ps) p cs .offset ≡ length (endToEnd ps)
+  -- call by call exactly the packets come out that are due, fillers counting as idle: nothing is lost, and the left-over is a tail
+  pub read-back : Delivers u (drop (7 - p .«left_over») shortIdle) (ps ++ fillers u v (endToEnd ps) p cs) freshRecord store []
+      (frames u v (endToEnd ps) p cs) (map arrives outs)
+  pub smooth : Smooth u freshRecord store (frames u v (endToEnd ps) p cs) outs
+  -- so at the run's end: exactly all of them, in order
+  pub all-out : placeAfter u v (endToEnd ps) p cs .offset ≡ length (endToEnd ps)
+      → dueInAll u (drop (7 - p .«left_over») shortIdle) (ps ++ fillers u v (endToEnd ps) p cs) [] (frames u v (endToEnd ps) p cs)
+      ≡ wanted (fitting ps)
+
+abbrev pub Demand2 : Type 0
+Demand2 = (u : SetUp) (v : ℕ) (ps : List (List ℕ)) (p : Place) (cs : List Writing) (store : List ℕ) (outs : List (List ℕ))
+    → fitsOf u ≡ true → v < channels → AllWhole ps → Octets (endToEnd ps) → length (endToEnd ps) ≤ 65536
+    → p .offset ≡ 0 → p .«left_over» ≤ 6 → p .master .0 < 256 → p .count .0 < 256 → Fair u cs
+    → length store ≡ most * 8 → Octets store → length outs ≡ length cs → Roomy outs
+    → ReadsBack u v ps p cs store outs
