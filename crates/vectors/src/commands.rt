@@ -1,4 +1,27 @@
-// The commands: their names, how many numbers each takes, and whether octets follow.
+// The commands: their names, how many numbers each takes, and whether octets follow. A flag is 0 for no, anything else for yes.
+//
+//   crc OCTETS                              their syndrome
+//   open N SPACECRAFT EC OCTETS             what a frame opens to; EC: error control is set up
+//   close N SPACECRAFT EC CHANNEL MASTER COUNT HAS_WORD WORD POINTER OCTETS
+//                                           the octets closed as a frame around the data field in them
+//   gap COUNT LAST                          frames missing between the two counts
+//   size OCTETS                             what the first octets of a packet tell
+//   chain OCTETS                            whether they are a chain of whole packets
+//   distance OFFSET OCTETS                  from an offset into a chain to the next boundary
+//   walk FROM LIMIT OCTETS                  from packet to packet
+//   fresh                                   a fresh record, a store of zeros, and as much of store and output as a reader wants
+//   paint OCTET                             the store filled
+//   lend STORE OUTPUT                       how much of the store and of the output the readings are lent
+//   channel V HEARD LAST STATE SIZE         a channel of the record; STATE: 0 hunting, 1 gathering, 2 skipping
+//   hold V OCTETS                           octets at the start of a channel's part of the store
+//   read N SPACECRAFT EC OCTETS             one frame through the reader, with the record and the store that are kept
+//   busy                                    the busy mask of the record, its ones, the lowest channel
+//   run OCTETS                              the run of packets
+//   runfill TOTAL COUNT                     COUNT packets of TOTAL octets as the run
+//   write N SPACECRAFT EC CHANNEL MASTER COUNT HAS_WORD WORD OFFSET LEFT_OVER OUTPUT
+//                                           one frame from the run, into OUTPUT octets
+//   again HAS_WORD WORD                     the next frame, from what the last writing gave back
+//   back                                    the frame that was written last, read under the set-up that it was written for
 use crate::words::Found;
 use crate::words::find;
 use crate::words::number;

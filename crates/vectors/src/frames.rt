@@ -1,7 +1,8 @@
 // Error control, opening and closing.
+use crate::printing::end_line;
 use crate::printing::flag;
 use crate::printing::hex16;
-use crate::printing::line;
+use crate::printing::malformed;
 use crate::printing::octets;
 use crate::printing::text;
 use crate::printing::value;
@@ -13,8 +14,6 @@ use frame::Header;
 use frame::MasterCount;
 use frame::Opened;
 use frame::SetUp;
-ghost use mathlib.Core.Path.{_≡_};
-ghost use Prim.Native.Nat.{_<_};
 
 // A number of the script, at most 4,294,967,295, as the API takes it.
 pub fn wide(n: usize) -> u32 {

@@ -1,11 +1,9 @@
 // Octets of a line: words of hex digits in pairs, and words *N, which have the octet before them stand N times in all.
+use crate::rooms::ROOM;
 use crate::words::Found;
 use crate::words::find;
 use crate::words::number;
 use crate::words::past_spaces;
-
-// Octets that one line can give.
-pub const ROOM: usize = 70000;
 
 // What a hex digit stands for, 16 if it is none.
 fn digit(b: u8) -> u8 {
@@ -34,7 +32,7 @@ fn pair(word: &[u8], i: usize) -> Found {
     Found::Value((high * 16 + low) as usize)
 }
 
-fn digits(word: &[u8], into: &mut [u8; 70000], n: usize) -> Found {
+fn digits(word: &[u8], into: &mut [u8; ROOM], n: usize) -> Found {
     if word.len() % 2 != 0 {
         return Found::Malformed;
     }
@@ -56,7 +54,7 @@ fn digits(word: &[u8], into: &mut [u8; 70000], n: usize) -> Found {
     Found::Value(at)
 }
 
-fn repeated(into: &mut [u8; 70000], n: usize, times: usize) -> Found {
+fn repeated(into: &mut [u8; ROOM], n: usize, times: usize) -> Found {
     if n == 0 {
         return Found::Malformed;
     }
@@ -75,7 +73,7 @@ fn repeated(into: &mut [u8; 70000], n: usize, times: usize) -> Found {
 }
 
 // One word, after n octets that stand there already.
-fn word(w: &[u8], into: &mut [u8; 70000], n: usize) -> Found {
+fn word(w: &[u8], into: &mut [u8; ROOM], n: usize) -> Found {
     if w.len() == 0 {
         return Found::Malformed;
     }
@@ -89,7 +87,7 @@ fn word(w: &[u8], into: &mut [u8; 70000], n: usize) -> Found {
 }
 
 // All words of the rest of a line: how many octets they are.
-pub fn words(rest: &[u8], into: &mut [u8; 70000]) -> Found {
+pub fn words(rest: &[u8], into: &mut [u8; ROOM]) -> Found {
     let mut n = 0;
     let mut at = past_spaces(rest, 0);
     while at < rest.len() {

@@ -1,4 +1,6 @@
-// Runs a script of cases from standard input through the libraries, and prints a line for each.
+// Runs a script of cases from standard input through the libraries, and prints a line for each: the command and what came
+// of it as key=value, numbers in decimal, octets in hex. A line that is empty or starts with # is printed as it is; one that
+// is no case gives the word malformed.
 mod commands;
 mod frames;
 mod hex;
@@ -6,6 +8,7 @@ mod outputs;
 mod packets;
 mod printing;
 mod reads;
+mod rooms;
 mod words;
 mod writes;
 
@@ -16,8 +19,13 @@ use commands::numbers;
 use libc::STDIN_FILENO;
 use outputs::within;
 use printing::line;
+use printing::malformed;
 use printing::text;
 use reads::Kept;
+use rooms::FRAME;
+use rooms::OUTPUT;
+use rooms::ROOM;
+use rooms::STORE;
 use words::Found;
 use words::find;
 use words::past_spaces;
@@ -37,7 +45,7 @@ enum Parsed {
     Malformed,
 }
 
-fn octets_of(rest: &[u8], wanted: bool, given: &mut [u8; 70000], command: Command) -> Parsed {
+fn octets_of(rest: &[u8], wanted: bool, given: &mut [u8; ROOM], command: Command) -> Parsed {
     if wanted {
         match hex::words(rest, given) {
             Found::Malformed => Parsed::Malformed,
@@ -50,7 +58,7 @@ fn octets_of(rest: &[u8], wanted: bool, given: &mut [u8; 70000], command: Comman
     }
 }
 
-fn parse(s: &[u8], a: &mut [usize; 11], given: &mut [u8; 70000]) -> Parsed {
+fn parse(s: &[u8], a: &mut [usize; 11], given: &mut [u8; ROOM]) -> Parsed {
     let start = past_spaces(s, 0);
     let end = find(s, start, b' ');
     let shape = named(&s[start..end]);
@@ -65,6 +73,7 @@ fn parse(s: &[u8], a: &mut [usize; 11], given: &mut [u8; 70000]) -> Parsed {
     }
 }
 
+// `a` has the line's numbers in order, and `given` its n octets.
 fn plain(c: Plain, a: [usize; 11], given: &mut [u8], n: usize) {
     let m = within(n, given.len());
     match c {
@@ -83,9 +92,9 @@ fn plain(c: Plain, a: [usize; 11], given: &mut [u8], n: usize) {
 fn back(
     kept: Kept,
     s: Sender,
-    frame: &[u8; 4096],
-    store: &mut [u8; 32769],
-    output: &mut [u8; 8192],
+    frame: &[u8; FRAME],
+    store: &mut [u8; STORE],
+    output: &mut [u8; OUTPUT],
 ) -> Kept {
     let set = s.set;
     text(b"back");
@@ -97,11 +106,11 @@ fn perform(
     a: [usize; 11],
     n: usize,
     bench: Bench,
-    given: &mut [u8; 70000],
-    run: &mut [u8; 70000],
-    store: &mut [u8; 32769],
-    output: &mut [u8; 8192],
-    frame: &mut [u8; 4096],
+    given: &mut [u8; ROOM],
+    run: &mut [u8; ROOM],
+    store: &mut [u8; STORE],
+    output: &mut [u8; OUTPUT],
+    frame: &mut [u8; FRAME],
 ) -> Bench {
     let kept = bench.kept;
     let sender = bench.sender;
@@ -132,17 +141,13 @@ fn perform(
 fn interpret(
     s: &[u8],
     bench: Bench,
-    given: &mut [u8; 70000],
-    run: &mut [u8; 70000],
-    store: &mut [u8; 32769],
-    output: &mut [u8; 8192],
-    frame: &mut [u8; 4096],
+    given: &mut [u8; ROOM],
+    run: &mut [u8; ROOM],
+    store: &mut [u8; STORE],
+    output: &mut [u8; OUTPUT],
+    frame: &mut [u8; FRAME],
 ) -> Bench {
-    if s.len() == 0 {
-        line(s);
-        return bench;
-    }
-    if s[0] == b'#' {
+    if s.len() == 0 || s[0] == b'#' {
         line(s);
         return bench;
     }
@@ -167,11 +172,11 @@ fn past(s: &[u8], at: usize, end: usize) -> usize
 // Line by line.
 fn run_script(
     s: &[u8],
-    given: &mut [u8; 70000],
-    run: &mut [u8; 70000],
-    store: &mut [u8; 32769],
-    output: &mut [u8; 8192],
-    frame: &mut [u8; 4096],
+    given: &mut [u8; ROOM],
+    run: &mut [u8; ROOM],
+    store: &mut [u8; STORE],
+    output: &mut [u8; OUTPUT],
+    frame: &mut [u8; FRAME],
 ) {
     let mut bench = Bench {
         kept: reads::first(),
@@ -188,11 +193,11 @@ fn run_script(
 
 fn main() {
     let mut script = [0u8; 262144];
-    let mut given = [0u8; 70000];
-    let mut run = [0u8; 70000];
-    let mut store = [0u8; 32769];
-    let mut output = [0u8; 8192];
-    let mut frame = [0u8; 4096];
+    let mut given = [0u8; ROOM];
+    let mut run = [0u8; ROOM];
+    let mut store = [0u8; STORE];
+    let mut output = [0u8; OUTPUT];
+    let mut frame = [0u8; FRAME];
     let n = io::read_full(STDIN_FILENO, &mut script);
     run_script(
         &script[..n],

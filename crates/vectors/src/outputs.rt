@@ -1,11 +1,12 @@
 // What an output holds before a call, and how it is looked at afterwards.
+use crate::rooms::OUTPUT;
 ghost use Prim.Native.Nat.{_≤_};
 ghost use lib.ListN.{length};
 
 pub const BLANK: u8 = 0xEE;
 
-pub fn blank(output: &mut [u8; 8192]) {
-    octets::fill(output, 0, 8192, BLANK);
+pub fn blank(output: &mut [u8; OUTPUT]) {
+    octets::fill(output, 0, OUTPUT, BLANK);
 }
 
 // The smaller of the two: so many octets of a slice of `most` are lent.

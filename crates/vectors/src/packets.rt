@@ -1,11 +1,14 @@
 // Packets: what their first octets tell, chains, and the walk.
 use crate::outputs::blank;
 use crate::outputs::filled;
+use crate::printing::end_line;
 use crate::printing::flag;
 use crate::printing::line;
 use crate::printing::octets;
 use crate::printing::text;
 use crate::printing::value;
+use crate::rooms::OUTPUT;
+use crate::words::Found;
 use packet::Packet;
 use packet::Size;
 use reader::End;
@@ -32,15 +35,23 @@ pub fn chain(run: &[u8]) {
     end_line();
 }
 
-pub fn distance(offset: usize, run: &[u8]) {
+fn to_boundary(offset: usize, run: &[u8]) -> Found {
     if run.len() < offset {
-        return line(b"distance outside");
+        return Found::Malformed;
     }
     if packet::is_chain(run) {
-        value(b"distance octets=", packet::distance(run, offset));
-        end_line();
-    } else {
-        line(b"distance outside");
+        return Found::Value(packet::distance(run, offset));
+    }
+    Found::Malformed
+}
+
+pub fn distance(offset: usize, run: &[u8]) {
+    match to_boundary(offset, run) {
+        Found::Malformed => line(b"distance outside"),
+        Found::Value(n) => {
+            value(b"distance octets=", n);
+            end_line();
+        }
     }
 }
 
@@ -64,14 +75,14 @@ fn ended(e: Ended, output: &[u8]) {
     end_line();
 }
 
-fn walk_into(from: usize, limit: usize, field: &[u8], output: &mut [u8; 8192]) {
+fn walk_into(from: usize, limit: usize, field: &[u8], output: &mut [u8; OUTPUT]) {
     if field.len() < from {
         return line(b"walk outside");
     }
     if limit < field.len() {
         return line(b"walk outside");
     }
-    if 8192 < field.len() - from {
+    if OUTPUT < field.len() - from {
         return line(b"walk outside");
     }
     let start = Tally {
@@ -84,7 +95,7 @@ fn walk_into(from: usize, limit: usize, field: &[u8], output: &mut [u8; 8192]) {
 }
 
 pub fn walk(from: usize, limit: usize, field: &[u8]) {
-    let mut output = [0u8; 8192];
+    let mut output = [0u8; OUTPUT];
     blank(&mut output);
     walk_into(from, limit, field, &mut output);
 }

@@ -8,11 +8,15 @@ use crate::outputs::blank;
 use crate::outputs::filled;
 use crate::outputs::strays;
 use crate::outputs::within;
+use crate::printing::end_line;
 use crate::printing::flag;
 use crate::printing::line;
+use crate::printing::malformed;
 use crate::printing::octets;
 use crate::printing::text;
 use crate::printing::value;
+use crate::rooms::OUTPUT;
+use crate::rooms::STORE;
 use channel::Channel;
 use channel::Output;
 use channel::Record;
@@ -41,27 +45,27 @@ pub fn first() -> Kept {
     }
 }
 
-fn fresh(store: &mut [u8; 32769]) -> Kept {
-    octets::fill(store, 0, 32769, 0);
+fn fresh(store: &mut [u8; STORE]) -> Kept {
+    octets::fill(store, 0, STORE, 0);
     line(b"fresh");
     first()
 }
 
-fn paint(v: usize, store: &mut [u8; 32769]) {
+fn paint(v: usize, store: &mut [u8; STORE]) {
     if 255 < v {
         return malformed();
     }
-    octets::fill(store, 0, 32769, narrow(v));
+    octets::fill(store, 0, STORE, narrow(v));
     value(b"paint octet=", v);
     end_line();
 }
 
 fn lend(kept: Kept, store: usize, output: usize) -> Kept {
-    if 32769 < store {
+    if STORE < store {
         malformed();
         return kept;
     }
-    if 8192 < output {
+    if OUTPUT < output {
         malformed();
         return kept;
     }
@@ -124,7 +128,7 @@ fn set_channel(kept: Kept, a: [usize; 11]) -> Kept {
     with_channel(kept, a[0], made)
 }
 
-fn hold(v: usize, held: &[u8], store: &mut [u8; 32769]) {
+fn hold(v: usize, held: &[u8], store: &mut [u8; STORE]) {
     if 7 < v {
         return malformed();
     }
@@ -250,7 +254,7 @@ fn held_size(s: State) -> usize
     ensures { λ r. ⌜ r ≤ 4096 ⌝ }
 {
     match s {
-        State::Gathering(k) => within(k, 4096),
+        State::Gathering(k) => within(k, Store::PART),
         _ => 0,
     }
 }
@@ -261,7 +265,7 @@ fn channel_of(rec: Record, v: usize) -> Channel {
 }
 
 // The frame's channel v, and its held octets.
-fn accepted(v: usize, old: Record, new: Record, before: &[u8; 32769], store: &[u8; 32769]) {
+fn accepted(v: usize, old: Record, new: Record, before: &[u8; STORE], store: &[u8; STORE]) {
     let c = channel_of(new, v);
     let s = c.state;
     told(c);
@@ -288,9 +292,9 @@ fn tell(
     answer: Answer,
     old: Record,
     new: Record,
-    before: &[u8; 32769],
-    store: &[u8; 32769],
-    output: &[u8; 8192],
+    before: &[u8; STORE],
+    store: &[u8; STORE],
+    output: &[u8; OUTPUT],
 ) {
     match answer {
         Answer::Refused(refusal) => refused(
@@ -314,10 +318,10 @@ pub fn read(
     kept: Kept,
     set: SetUp,
     frame: &[u8],
-    store: &mut [u8; 32769],
-    output: &mut [u8; 8192],
+    store: &mut [u8; STORE],
+    output: &mut [u8; OUTPUT],
 ) -> Kept {
-    let mut before = [0u8; 32769];
+    let mut before = [0u8; STORE];
     octets::copy(&mut before, 0, store);
     blank(output);
     let old = kept.rec;
@@ -338,8 +342,8 @@ pub fn read_part(
     set: SetUp,
     frame: &[u8],
     n: usize,
-    store: &mut [u8; 32769],
-    output: &mut [u8; 8192],
+    store: &mut [u8; STORE],
+    output: &mut [u8; OUTPUT],
 ) -> Kept {
     let m = within(n, frame.len());
     read(kept, set, &frame[0..m], store, output)
@@ -351,8 +355,8 @@ pub fn perform(
     given: &[u8],
     n: usize,
     kept: Kept,
-    store: &mut [u8; 32769],
-    output: &mut [u8; 8192],
+    store: &mut [u8; STORE],
+    output: &mut [u8; OUTPUT],
 ) -> Kept {
     match c {
         Reading::Fresh => fresh(store),

@@ -3,13 +3,15 @@ use crate::commands::Writing;
 use crate::frames::control_word;
 use crate::frames::narrow;
 use crate::frames::set_up;
-use crate::hex::ROOM;
 use crate::outputs::BLANK;
 use crate::outputs::within;
-use crate::printing::line;
+use crate::printing::end_line;
+use crate::printing::malformed;
 use crate::printing::octets;
 use crate::printing::text;
 use crate::printing::value;
+use crate::rooms::FRAME;
+use crate::rooms::ROOM;
 use frame::ChannelCount;
 use frame::ControlWord;
 use frame::MasterCount;
@@ -54,7 +56,7 @@ fn with_run(s: Sender, run: usize) -> Sender {
     }
 }
 
-fn take_run(s: Sender, given: &[u8], run: &mut [u8; 70000]) -> Sender {
+fn take_run(s: Sender, given: &[u8], run: &mut [u8; ROOM]) -> Sender {
     if ROOM < given.len() {
         malformed();
         return s;
@@ -66,7 +68,7 @@ fn take_run(s: Sender, given: &[u8], run: &mut [u8; 70000]) -> Sender {
 }
 
 // Each octet from `from` on and before `to` is its place modulo 256.
-fn count_up(run: &mut [u8; 70000], from: usize, to: usize) {
+fn count_up(run: &mut [u8; ROOM], from: usize, to: usize) {
     let mut i = from;
     while i < to && i < ROOM {
         run[i] = (i % 256) as u8;
@@ -75,7 +77,7 @@ fn count_up(run: &mut [u8; 70000], from: usize, to: usize) {
 }
 
 // A packet of application 1 at `at`: the place past it.
-fn lay_packet(run: &mut [u8; 70000], at: usize, total: usize, sequence: usize) -> usize {
+fn lay_packet(run: &mut [u8; ROOM], at: usize, total: usize, sequence: usize) -> usize {
     if total < Packet::MIN {
         return at;
     }
@@ -92,7 +94,7 @@ fn lay_packet(run: &mut [u8; 70000], at: usize, total: usize, sequence: usize) -
     at + total
 }
 
-fn lay_packets(run: &mut [u8; 70000], total: usize, count: usize) -> usize {
+fn lay_packets(run: &mut [u8; ROOM], total: usize, count: usize) -> usize {
     let mut at = 0;
     let mut i = 0;
     while i < count {
@@ -102,7 +104,7 @@ fn lay_packets(run: &mut [u8; 70000], total: usize, count: usize) -> usize {
     at
 }
 
-fn fill_run(s: Sender, total: usize, count: usize, run: &mut [u8; 70000]) -> Sender {
+fn fill_run(s: Sender, total: usize, count: usize, run: &mut [u8; ROOM]) -> Sender {
     if total < Packet::MIN || Packet::FORMAT_MAX < total || ROOM / total < count {
         malformed();
         return s;
@@ -180,7 +182,7 @@ fn write_from(s: Sender, a: [usize; 11], run: &[u8], output: &mut [u8]) -> Sende
     write_on(start, control_word(a[6], a[7]), run, output)
 }
 
-fn take_part(s: Sender, given: &[u8], n: usize, run: &mut [u8; 70000]) -> Sender {
+fn take_part(s: Sender, given: &[u8], n: usize, run: &mut [u8; ROOM]) -> Sender {
     let m = within(n, given.len());
     take_run(s, &given[0..m], run)
 }
@@ -191,8 +193,8 @@ pub fn perform(
     given: &[u8],
     n: usize,
     s: Sender,
-    run: &mut [u8; 70000],
-    output: &mut [u8; 4096],
+    run: &mut [u8; ROOM],
+    output: &mut [u8; FRAME],
 ) -> Sender {
     match c {
         Writing::Run => take_part(s, given, n, run),
