@@ -17,6 +17,7 @@ one-answer =
       put = λ n s at v x y p q. both p q;
       copy = λ d at s x y p q. both p q;
       fill = λ d at count v x y p q. both p q;
+      least = λ a b x y p q. both p q;
       syndrome = λ m x y p q. both p q;
       set-up-fits = λ u x y p q. both p q;
       master-next = λ m x y p q. λ i. record { 0 = both p q i };

@@ -4,7 +4,7 @@
 use mathlib.Core.Path.{_≡_}
 use mathlib.Core.Bool.{Bool}
 use mathlib.Core.List.{List, _++_}
-use Prim.Native.Nat.{ℕ, _+_, _≤_, _<_}
+use Prim.Native.Nat.{ℕ, _+_, _≤_, _<_, min}
 use lib.ListN.{length, getD, drop, replicate}
 use Rattle.octets.specs.Laid.{laid}
 use Rattle.octets.specs.Numbers.{numberAt, octetsOf}
@@ -53,7 +53,7 @@ abbrev pub One : {A : Type 0} → (A → Type 0) → Type 0
 One {A} allowed = (x y : A) → allowed x → allowed y → x ≡ y
 
 pub record OneAnswer : Type 0 where
-  -- octets: octet, octet_across, number16, number32, put8, put16, put32, copy, fill
+  -- octets: octet, octet_across, number16, number32, put16, put32, copy, fill, least
   pub octet : (s : List ℕ) (at : ℕ) → One (λ (r : ℕ). (r ≡ getD s at 0) × (r < 256))
   pub octet-across : (a b : List ℕ) (at : ℕ) → One (λ (r : ℕ). (r ≡ getD (a ++ b) at 0) × (r < 256))
   pub number16 : (s : List ℕ) (at : ℕ) → One (λ (r : ℕ). (r ≡ numberAt s at 2) × (r < 65536))
@@ -61,6 +61,7 @@ pub record OneAnswer : Type 0 where
   pub put : (n : ℕ) (s : List ℕ) (at v : ℕ) → One (λ (s′ : List ℕ). s′ ≡ laid s at (octetsOf n v))
   pub copy : (d : List ℕ) (at : ℕ) (s : List ℕ) → One (λ (d′ : List ℕ). d′ ≡ laid d at s)
   pub fill : (d : List ℕ) (at count v : ℕ) → One (λ (d′ : List ℕ). d′ ≡ laid d at (replicate count v))
+  pub least : (a b : ℕ) → One (λ (r : ℕ). r ≡ min a b)
   -- crc: syndrome
   pub syndrome : (m : List ℕ) → One (λ (r : ℕ). r ≡ syndromeOf m)
   -- frame: SetUp::fits, the counts' next and gap, Header::of, open, number, data_size_for, close

@@ -40,13 +40,6 @@ pub fn number32(s: &[u8], at: usize) -> u32
     (number16(s, at) * 65536 + number16(s, at + 2)) as u32
 }
 
-pub fn put8(s: &mut [u8], at: usize, v: usize)
-    requires { ⌜ at < length (now s) ⌝ }
-    ensures { λ _. ⌜ now (s .exit) ≡ laid (now (s .entry)) at (octetsOf 1 v) ⌝ }
-{
-    s[at] = (v % 256) as u8;
-}
-
 pub fn put16(s: &mut [u8], at: usize, v: usize)
     requires { ⌜ at + 2 ≤ length (now s) ⌝ }
     ensures { λ _. ⌜ now (s .exit) ≡ laid (now (s .entry)) at (octetsOf 2 v) ⌝ }
