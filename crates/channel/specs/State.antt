@@ -2,6 +2,7 @@
 use mathlib.Core.Bool.{false}
 use Prim.Native.Nat.{ℕ}
 use lib.ListN.{replicate}
+use Rattle.frame.specs.Closing.{channels}
 use Rattle.channel.specs.declared.state.Channel.{Channel}
 use Rattle.channel.specs.declared.state.Record.{Record}
 use Rattle.channel.specs.declared.state.State.{State}
@@ -12,4 +13,4 @@ abbrev pub freshChannel : Channel
 freshChannel = record { heard = false; last = record { 0 = 0 }; state = Hunting }
 
 abbrev pub freshRecord : Record
-freshRecord = record { channels = replicate 8 freshChannel }
+freshRecord = record { channels = replicate channels freshChannel }

@@ -8,6 +8,7 @@ use Prim.Native.Nat.{ℕ, _*_, _/_, _%_, _^_, _≤_, _<_}
 use lib.ListN.{length, getD, take}
 use Rattle.octets.specs.Pick.{pick}
 use Rattle.packet.specs.Size.{versionOf, totalOf}
+use Rattle.frame.specs.Closing.{channels}
 use Rattle.channel.specs.declared.state.Channel.{Channel}
 use Rattle.channel.specs.declared.state.Record.{Record}
 use Rattle.channel.specs.declared.state.State.the-variants.{Hunting, Gathering, Skipping}
@@ -45,23 +46,23 @@ Fresh-follows = (limit : ℕ) (store : List ℕ) → recordFollows limit store f
 
 -- a channel's part lies inside the store: it has as many octets as the limit says
 abbrev pub Part-inside : Type 0
-Part-inside = (limit v : ℕ) (store : List ℕ) → length store ≡ limit * 8 → v < 8 → length (partOf limit v store) ≡ limit
+Part-inside = (limit v : ℕ) (store : List ℕ) → length store ≡ limit * channels → v < channels → length (partOf limit v store) ≡ limit
 
 -- another part for a channel is its part then, the store keeps its length, and every other channel's part is as it was
 abbrev pub Part-own : Type 0
-Part-own = (limit v : ℕ) (store part : List ℕ) → length store ≡ limit * 8 → v < 8 → length part ≡ limit
+Part-own = (limit v : ℕ) (store part : List ℕ) → length store ≡ limit * channels → v < channels → length part ≡ limit
     → partOf limit v (withPart limit v store part) ≡ part
 
 abbrev pub Part-length : Type 0
-Part-length = (limit v : ℕ) (store part : List ℕ) → length store ≡ limit * 8 → v < 8 → length part ≡ limit
-    → length (withPart limit v store part) ≡ limit * 8
+Part-length = (limit v : ℕ) (store part : List ℕ) → length store ≡ limit * channels → v < channels → length part ≡ limit
+    → length (withPart limit v store part) ≡ limit * channels
 
 abbrev pub Part-apart : Type 0
-Part-apart = (limit v w : ℕ) (store part : List ℕ) → length store ≡ limit * 8 → v < 8 → w < 8 → length part ≡ limit → (v ≡ w → ⊥)
+Part-apart = (limit v w : ℕ) (store part : List ℕ) → length store ≡ limit * channels → v < channels → w < channels → length part ≡ limit → (v ≡ w → ⊥)
     → partOf limit w (withPart limit v store part) ≡ partOf limit w store
 
 abbrev pub Part-same : Type 0
-Part-same = (limit v : ℕ) (store : List ℕ) → length store ≡ limit * 8 → v < 8 → withPart limit v store (partOf limit v store) ≡ store
+Part-same = (limit v : ℕ) (store : List ℕ) → length store ≡ limit * channels → v < channels → withPart limit v store (partOf limit v store) ≡ store
 
 -- the bit of value 2^v is set exactly when channel v is busy, and there is no other bit
 abbrev pub Mask-bit : Type 0

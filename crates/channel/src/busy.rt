@@ -1,5 +1,6 @@
 use crate::state::Record;
 use crate::state::State;
+use frame::Header;
 ghost use mathlib.Core.Path.{_≡_};
 ghost use Prim.Native.Nat.{_+_, _*_, _<_};
 ghost use Rattle.octets.specs.Pick.{pick};
@@ -29,7 +30,7 @@ impl Record {
         ensures { λ r. ⌜ r ≡ maskOf (self .channels) ⌝ }
     {
         let mut mask: u8 = 0;
-        let mut v = 8;
+        let mut v = Header::CHANNELS;
         while 0 < v {
             v -= 1;
             let channel = self.channels[v];

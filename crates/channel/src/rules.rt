@@ -2,11 +2,13 @@ use crate::state::Channel;
 use crate::state::Record;
 use crate::state::State;
 use crate::store::Store;
+use frame::Header;
 use packet::Packet;
 use packet::Size;
 ghost use mathlib.Core.Path.{_≡_};
 ghost use Prim.Native.Nat.{_*_, _≤_};
 ghost use lib.ListN.{length};
+ghost use Rattle.frame.specs.Closing.{channels};
 ghost use Rattle.packet.specs.Size.{most};
 ghost use Rattle.channel.specs.Rules.{judged, stateFollows, channelFollows, recordFollows};
 
@@ -68,11 +70,11 @@ fn channel_follows(channel: Channel, part: &[u8]) -> bool
 
 // The record keeps the rules, all eight channels (test 4).
 pub fn follows(rec: Record, store: &[u8]) -> bool
-    requires { ⌜ length (now store) ≡ most * 8 ⌝ }
+    requires { ⌜ length (now store) ≡ most * channels ⌝ }
     ensures { λ r. ⌜ r ≡ recordFollows most (now (store .entry)) rec ⌝ }
 {
     let mut v = 0;
-    while v < 8 {
+    while v < Header::CHANNELS {
         let at = Store::place(v);
         let end = at + Store::PART;
         let channel = rec.channels[v];

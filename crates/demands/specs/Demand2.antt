@@ -19,7 +19,7 @@ use Rattle.channel.specs.declared.state.Record.{Record}
 use Rattle.reader.specs.Reading as read
 use Rattle.reader.specs.declared.reading.Answer.the-variants.{Accepted}
 use Rattle.reader.specs.declared.reading.Report.{Report}
-use Rattle.writer.specs.Laying.{idlePacket, placedPart, shortIdle}
+use Rattle.writer.specs.Laying.{idlePacket, mostLeft, placedPart, shortIdle}
 use Rattle.writer.specs.Writing as write
 use Rattle.writer.specs.declared.writing.Answer.the-variants.{Frame}
 use Rattle.writer.specs.declared.writing.Place.{Place}
@@ -104,7 +104,7 @@ pub record ReadsBack (u : SetUp) (v : ℕ) (ps : List (List ℕ)) (p : Place) (c
 
 abbrev pub Demand2 : Type 0
 Demand2 = (u : SetUp) (v : ℕ) (ps : List (List ℕ)) (p : Place) (cs : List Writing) (store : List ℕ) (outs : List (List ℕ))
-    → fitsOf u ≡ true → v < channels → AllWhole ps → Octets (endToEnd ps) → length (endToEnd ps) ≤ 65536
-    → p .offset ≡ 0 → p .«left_over» ≤ 6 → p .master .0 < 256 → p .count .0 < 256 → Fair u cs
-    → length store ≡ most * 8 → Octets store → length outs ≡ length cs → Roomy outs
+    → fitsOf u ≡ true → v < channels → AllWhole ps → Octets (endToEnd ps) → length (endToEnd ps) ≤ write.mostRun
+    → p .offset ≡ 0 → p .«left_over» ≤ mostLeft → p .master .0 < 256 → p .count .0 < 256 → Fair u cs
+    → length store ≡ most * channels → Octets store → length outs ≡ length cs → Roomy outs
     → ReadsBack u v ps p cs store outs

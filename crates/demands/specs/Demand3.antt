@@ -7,6 +7,7 @@ use Prim.Native.Nat.{ℕ, _*_, _<_}
 use lib.ListN.{length, getD}
 use Rattle.packet.specs.Size.{most}
 use Rattle.packet.specs.Theorems.{AllWhole}
+use Rattle.frame.specs.Closing.{channels}
 use Rattle.frame.specs.declared.set_up.SetUp.{SetUp}
 use Rattle.channel.specs.Rules.{recordFollows}
 use Rattle.channel.specs.State.{freshChannel, freshRecord}
@@ -18,7 +19,7 @@ use Rattle.demands.specs.Sender.{Octets, Sends, streamOf}
 abbrev pub Demand3 : Type 0
 Demand3 = (u : SetUp) (v count : ℕ) (tail : List ℕ) (ps fs : List (List ℕ)) (rec : Record) (store : List ℕ) (es : List Event)
     → AllWhole ps → Sends u v count (streamOf tail ps) fs
-    → v < 8 → length (rec .channels) ≡ 8 → length store ≡ most * 8 → Octets store → recordFollows most store rec ≡ true
+    → v < channels → length (rec .channels) ≡ channels → length store ≡ most * channels → Octets store → recordFollows most store rec ≡ true
     → getD (rec .channels) v freshChannel .heard ≡ false
     → Allowed u v rec store false 0 fs es
     → Delivers u tail ps rec store [] fs es
@@ -26,6 +27,6 @@ Demand3 = (u : SetUp) (v count : ℕ) (tail : List ℕ) (ps fs : List (List ℕ)
 -- the corollary that the demand names: from a fresh record
 abbrev pub Demand3-fresh : Type 0
 Demand3-fresh = (u : SetUp) (v count : ℕ) (tail : List ℕ) (ps fs : List (List ℕ)) (store : List ℕ) (es : List Event)
-    → AllWhole ps → Sends u v count (streamOf tail ps) fs → v < 8 → length store ≡ most * 8 → Octets store
+    → AllWhole ps → Sends u v count (streamOf tail ps) fs → v < channels → length store ≡ most * channels → Octets store
     → Allowed u v freshRecord store false 0 fs es
     → Delivers u tail ps freshRecord store [] fs es

@@ -1,6 +1,6 @@
 -- The set-up and its numbers (01, "The set-up and its numbers").
 use mathlib.Core.Bool.{Bool, _&&_}
-use Prim.Native.Nat.{ℕ}
+use Prim.Native.Nat.{ℕ, _-_}
 use lib.Dec.{leb}
 use Rattle.frame.specs.declared.set_up.SetUp.{SetUp}
 
@@ -10,6 +10,10 @@ leastLength = 13
 
 abbrev pub mostLength : ℕ
 mostLength = 2048
+
+-- the longest data field: that of the longest frame, with nothing in it but the header's 6 octets
+abbrev pub mostField : ℕ
+mostField = mostLength - 6
 
 -- "a spacecraft number 0 to 1,023"
 abbrev pub mostSpacecraft : ℕ

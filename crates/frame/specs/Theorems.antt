@@ -19,7 +19,7 @@ use Rattle.frame.specs.Answers.{numberOf, valuesOf, closeNumberOf, close
 use Rattle.frame.specs.Closing.{channels, closeTable, closeOf, closeSize, fieldIn, flaggedBy, outputOf}
 use Rattle.frame.specs.Counts.{after, gapOf}
 use Rattle.frame.specs.Opening.{openTable, openOf, frameOf, idleData, noneStarts}
-use Rattle.frame.specs.SetUp.{fitsOf, mostLength}
+use Rattle.frame.specs.SetUp.{fitsOf, mostField, mostLength}
 use Rattle.frame.specs.Table.{First, None}
 
 -- a number is given exactly when its cause holds and no earlier one does
@@ -38,7 +38,7 @@ pub record Sound (u : SetUp) (f : List ℕ) (x : Frame) : Type 0 where
   -- the data field lies inside the frame and has D octets, 1 to 2,042
   pub inside : x .place + x .size ≤ length f
   pub least : 1 ≤ x .size
-  pub most : x .size ≤ 2042
+  pub most : x .size ≤ mostField
   pub field : length (take (x .size) (drop (x .place) f)) ≡ x .size
   -- a channel of the eight
   pub channel : x .header .channel < channels

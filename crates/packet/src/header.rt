@@ -1,3 +1,4 @@
+use crate::source::Packet;
 ghost use mathlib.Core.Path.{_≡_};
 ghost use Prim.Native.Nat.{_≤_};
 ghost use lib.ListN.{length};
@@ -28,7 +29,7 @@ impl Header {
             application: first % 2048,
             grouping: (second / 16384) as u8,
             sequence: second % 16384,
-            total: octets::number16(packet, 4) + 7,
+            total: octets::number16(packet, 4) + Packet::MIN,
         }
     }
 }

@@ -16,6 +16,7 @@ use Rattle.octets.proofs.Runs.{laid-behind}
 use Rattle.octets.specs.Pick.{pick}
 use Rattle.packet.specs.Size.{sizeOf, idleOf, versionOf}
 use Rattle.packet.specs.declared.source.Size.{Size}
+use Rattle.frame.specs.SetUp.{mostField, mostLength}
 use Rattle.packet.specs.declared.source.Size.the-variants.{Wait, Foreign, Total}
 use Rattle.packet.proofs.Laws.{size-in-words, total-least, total-stays}
 use Rattle.channel.specs.Rules.{judged, stateFollows}
@@ -159,7 +160,7 @@ held-there limit part k e follows =
     (omega arith, omega (arith, length-take k part))
 
 -- a total that the held octets and the field tell lies above k, and above the limit only if it is not all there
-pub under-way : (limit : ℕ) (part field : List ℕ) (k n : ℕ) → length part ≡ limit → 4096 ≤ limit → length field ≤ 2042
+pub under-way : (limit : ℕ) (part field : List ℕ) (k n : ℕ) → length part ≡ limit → mostLength ≤ limit → length field ≤ mostField
     → stateFollows limit part (Gathering k) ≡ true → sizeOf (take k part ++ field) ≡ Total n → (k < n) × (limit < n → k + length field < n)
 unfolding judged
 under-way limit part field k n lp wide few follows e = go (sizeOf (take k part)) refl (gathers limit part k follows .1)

@@ -9,6 +9,8 @@ use Rattle.octets.specs.Laid.{laid}
 use Rattle.octets.specs.Pick.{pick}
 use Rattle.packet.specs.Size.{most}
 use Rattle.frame.specs.Opening.{row1, openTable, frameOf, idleData}
+use Rattle.frame.specs.Closing.{channels}
+use Rattle.frame.specs.SetUp.{mostField, mostLength}
 use Rattle.frame.specs.Theorems.{Points}
 use Rattle.frame.specs.Table.{Row, row, firstCause}
 use Rattle.frame.specs.declared.header.Header.{Header}
@@ -139,11 +141,11 @@ pub record ReadBy (x : Frame) (rec : Record) (store out f : List ℕ) (answer : 
 
 -- what the steps of a frame that gives x may rely on
 pub record Ready (rec : Record) (x : Frame) (f store out : List ℕ) : Type 0 where
-  pub store-whole : length store ≡ most * 8
-  pub output-room : most + 2048 ≤ length out
+  pub store-whole : length store ≡ most * channels
+  pub output-room : most + mostLength ≤ length out
   pub follows : recordFollows most store rec ≡ true
   pub inside : x .place + x .size ≤ length f
   pub some : 1 ≤ x .size
-  pub few : x .size ≤ 2042
-  pub channel : x .header .channel < 8
+  pub few : x .size ≤ mostField
+  pub channel : x .header .channel < channels
   pub points : x .header .synchronisation ≡ false → Points (x .header .pointer) (x .size)

@@ -8,11 +8,12 @@ use lib.Dec.{eqb, ltb, leb}
 use lib.ListN.{length, take, drop}
 use Rattle.octets.specs.Laid.{laid}
 use Rattle.octets.specs.Pick.{pick}
-use Rattle.packet.specs.Size.{sizeOf}
+use Rattle.packet.specs.Size.{sizeOf, formatMost}
 use Rattle.packet.specs.declared.source.Size.{Size}
 use Rattle.packet.specs.declared.source.Size.the-variants.{Wait, Foreign, Total}
 use Rattle.frame.specs.Counts.{gapOf}
 use Rattle.frame.specs.Opening.{idleData, noneStarts}
+use Rattle.frame.specs.SetUp.{mostLength, mostField}
 use Rattle.frame.specs.declared.header.Header.{Header}
 use Rattle.channel.specs.Busy.{busyState}
 use Rattle.channel.specs.declared.state.Channel.{Channel}
@@ -189,12 +190,13 @@ pub record Did (d : Done) (course : Course) (part part′ out out′ : List ℕ)
   pub holds : part′ ≡ laid part 0 (d .held)
   pub hands : out′ ≡ laid out 0 (handedAll (d .whole))
 
--- what the steps may rely on: the part has `limit` octets, the field 1 to 2,042, the output room for both, and the pointer passed test 12
+-- what the steps may rely on: the limit is at least the longest frame and at most the format's own; the part has `limit` octets, the field
+-- one or more, the output room for both, and the pointer passed test 12
 pub record Fit (limit : ℕ) (part field : List ℕ) (pointer : ℕ) (out : List ℕ) : Type 0 where
   pub whole-part : length part ≡ limit
-  pub wide : 4096 ≤ limit
-  pub not-too-wide : limit ≤ 65542
+  pub wide : mostLength ≤ limit
+  pub not-too-wide : limit ≤ formatMost
   pub some : 1 ≤ length field
-  pub few : length field ≤ 2042
-  pub room : limit + 2048 ≤ length out
+  pub few : length field ≤ mostField
+  pub room : limit + mostLength ≤ length out
   pub points : (pointer < length field) ⊎ ((pointer ≡ idleData) ⊎ (pointer ≡ noneStarts))

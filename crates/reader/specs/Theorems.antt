@@ -8,6 +8,7 @@ use lib.Dec.{eqb, leb}
 use lib.ListN.{length, getD}
 use Rattle.octets.specs.Pick.{pick}
 use Rattle.packet.specs.Size.{most}
+use Rattle.frame.specs.Closing.{channels}
 use Rattle.frame.specs.Opening.{frameOf}
 use Rattle.frame.specs.Table.{First, None}
 use Rattle.frame.specs.declared.opening.Frame.{Frame}
@@ -58,12 +59,12 @@ Octets l = (i : ℕ) → getD l i 0 < 256
 -- every accepted frame keeps the rules of the record, and the lengths
 pub record Keeps (u : SetUp) (rec : Record) (store out f : List ℕ) : Type 0 where
   pub follows : recordFollows most (storeOf u rec store out f) (recordOf u rec store out f) ≡ true
-  pub eight : length (recordOf u rec store out f .channels) ≡ 8
+  pub eight : length (recordOf u rec store out f .channels) ≡ channels
   pub store-length : length (storeOf u rec store out f) ≡ length store
   pub output-length : length (outputOf u rec store out f) ≡ length out
 
 abbrev pub Accepted-keeps : Type 0
-Accepted-keeps = (u : SetUp) (rec : Record) (store out f : List ℕ) (a : Report) → Octets store → Octets f → length (rec .channels) ≡ 8
+Accepted-keeps = (u : SetUp) (rec : Record) (store out f : List ℕ) (a : Report) → Octets store → Octets f → length (rec .channels) ≡ channels
     → answerOf u rec store out f ≡ Accepted a → Keeps u rec store out f
 
 -- only the frame's own channel and its part of the store can change
@@ -73,7 +74,7 @@ pub record Apart (u : SetUp) (rec : Record) (store out f : List ℕ) (w : ℕ) :
 
 abbrev pub Others-apart : Type 0
 Others-apart = (u : SetUp) (rec : Record) (store out f : List ℕ) (a : Report) (w : ℕ)
-    → answerOf u rec store out f ≡ Accepted a → w < 8 → (w ≡ a .header .channel → ⊥) → Apart u rec store out f w
+    → answerOf u rec store out f ≡ Accepted a → w < channels → (w ≡ a .header .channel → ⊥) → Apart u rec store out f w
 
 -- a skip ended in this frame: the channel skipped r octets, went on, and r lie within the field
 unfoldable pub skipsOut : State → ℕ → ℕ → Bool

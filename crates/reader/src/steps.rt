@@ -14,10 +14,11 @@ ghost use Prim.Native.Nat.{_+_, _-_, _≤_, _<_};
 ghost use lib.ListN.{length, take, drop};
 ghost use Rattle.octets.specs.Laid.{laid};
 ghost use Rattle.octets.specs.Pick.{pick};
-ghost use Rattle.packet.specs.Size.{sizeOf};
+ghost use Rattle.packet.specs.Size.{formatMost, least, sizeOf};
 ghost use Rattle.channel.specs.Busy.{busyState};
 ghost use Rattle.channel.specs.Rules.{channelFollows, stateFollows};
 ghost use Rattle.frame.specs.Opening.{idleData};
+ghost use Rattle.frame.specs.SetUp.{mostField, mostLength};
 ghost use Rattle.reader.specs.Steps.{CutFits, Did, Fit, agrees, brokenBy, brokenCourse, calledAt, carriesNone, courseBy, disagreedCourse, ended, gapFor, heldBy, hunted, resumed, stepsOf};
 ghost use Rattle.reader.specs.Walk.{handed, noTally, tallied, walkOf};
 
@@ -104,7 +105,7 @@ fn hunt(field: &[u8], pointer: usize, limit: usize, part: &mut [u8], out: &mut [
 
 // Delivers, or counts if it is idle, a packet of `total` octets that began with the held ones and ends in the field.
 fn finish(held: &[u8], field: &[u8], total: usize, out: &mut [u8]) -> Tally
-    requires { ⌜ (7 ≤ total) × (length (now held) ≤ total) × (total ≤ length (now held) + length (now field)) × (total ≤ length (now out)) ⌝ }
+    requires { ⌜ (least ≤ total) × (length (now held) ≤ total) × (total ≤ length (now held) + length (now field)) × (total ≤ length (now out)) ⌝ }
     ensures tally { λ r. ⌜ r ≡ tallied noTally (take total (now (held .entry) ++ now (field .entry))) ⌝ }
     ensures output { λ _. ⌜ now (out .exit) ≡ laid (now (out .entry)) 0 (handed (take total (now (held .entry) ++ now (field .entry)))) ⌝ }
 {
@@ -145,7 +146,7 @@ fn gather(
     part: &mut [u8],
     out: &mut [u8],
 ) -> Course
-    requires { ⌜ (length (now part) ≡ limit) × (4096 ≤ limit) × (limit ≤ 65542) × (1 ≤ length (now field)) × (length (now field) ≤ 2042) × (limit + 2048 ≤ length (now out)) ⌝ }
+    requires { ⌜ (length (now part) ≡ limit) × (mostLength ≤ limit) × (limit ≤ formatMost) × (1 ≤ length (now field)) × (length (now field) ≤ mostField) × (limit + mostLength ≤ length (now out)) ⌝ }
     requires { ⌜ (stateFollows limit (now part) (State.Gathering k) ≡ true) × (size ≡ sizeOf (take k (now part) ++ now field)) ⌝ }
     ensures { λ r. ⌜ Did (ended (walkOf limit (take k (now (part .entry)) ++ now (field .entry)))) r (now (part .entry)) (now (part .exit)) (now (out .entry)) (now (out .exit)) ⌝ }
 {

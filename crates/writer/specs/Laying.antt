@@ -6,7 +6,12 @@ use lib.Dec.{eqb, ltb, leb}
 use lib.ListN.{length, take, drop, replicate}
 use Rattle.octets.specs.Numbers.{octetsOf}
 use Rattle.octets.specs.Pick.{pick}
+use Rattle.packet.specs.Size.{least}
 use Rattle.frame.specs.Opening.{idleData, noneStarts}
+
+-- "a left-over of 0 to 6": at most all but one of the octets of the shortest idle packet
+abbrev pub mostLeft : ℕ
+mostLeft = least - 1
 
 -- "An idle packet has header 07 FF C0 00, its length, and octets 55."
 unfoldable pub idlePacket : ℕ → List ℕ
@@ -18,7 +23,7 @@ shortIdle = 0x07 ∷ 0xFF ∷ 0xC0 ∷ 0x00 ∷ 0x00 ∷ 0x00 ∷ 0x55 ∷ []
 
 -- "first the last left-over octets of the idle packet [..], as many as fit"
 unfoldable pub leftPart : ℕ → ℕ → List ℕ
-leftPart D left = take D (drop (7 - left) shortIdle)
+leftPart D left = take D (drop (least - left) shortIdle)
 
 -- "then the run from the offset"
 unfoldable pub runPart : ℕ → List ℕ → ℕ → ℕ → List ℕ
@@ -33,11 +38,11 @@ placedPart D run offset left = leftPart D left ++ runPart D run offset left
 unfoldable pub fillerOf : ℕ → ℕ → List ℕ
 fillerOf placed room =
     pick (eqb placed 0) (replicate room 0x55)
-    (pick (leb 7 room) (idlePacket room) (take room shortIdle))
+    (pick (leb least room) (idlePacket room) (take room shortIdle))
 
 -- the unplaced octets of a 7-octet idle packet that was begun
 unfoldable pub leftAfter : ℕ → ℕ → ℕ
-leftAfter placed room = pick (eqb placed 0) 0 (pick (leb 7 room) 0 (pick (eqb room 0) 0 (7 - room)))
+leftAfter placed room = pick (eqb placed 0) 0 (pick (leb least room) 0 (pick (eqb room 0) 0 (least - room)))
 
 -- the whole data field
 unfoldable pub fieldOf : ℕ → List ℕ → ℕ → ℕ → List ℕ

@@ -16,7 +16,7 @@ use Rattle.writer.specs.declared.writing.Answer.the-variants.{Refused, F
 use Rattle.writer.specs.declared.writing.Place.{Place}
 use Rattle.writer.specs.declared.writing.Refusal.{Refusal}
 use Rattle.writer.specs.Answers.{numberOf, valuesOf}
-use Rattle.writer.specs.Laying.{nothingOf, placedPart}
+use Rattle.writer.specs.Laying.{mostLeft, nothingOf, placedPart}
 use Rattle.writer.specs.Writing.{writeTable, answerOf, nextOf, nextPlace, outputOf, frameWritten, laidField, laidPointer}
 
 -- a number is given exactly when its cause holds and no earlier one does
@@ -73,7 +73,7 @@ pub record GoesOn (u : SetUp) (channel : ℕ) (p : Place) (w : ControlWord) (run
   pub next-passes : answerOf u channel (nextPlace u p w run) run out ≡ Frame
   pub not-back : p .offset ≤ nextPlace u p w run .offset
   pub inside : nextPlace u p w run .offset ≤ length run
-  pub few-left : nextPlace u p w run .«left_over» ≤ 6
+  pub few-left : nextPlace u p w run .«left_over» ≤ mostLeft
 
 abbrev pub Goes-on : Type 0
 Goes-on = (u : SetUp) (channel : ℕ) (p : Place) (w : ControlWord) (run out : List ℕ) → answerOf u channel p run out ≡ Frame → GoesOn u channel p w run out

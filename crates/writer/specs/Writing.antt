@@ -18,7 +18,7 @@ use Rattle.writer.specs.declared.writing.Answer.the-variants.{Refused, F
 use Rattle.writer.specs.declared.writing.Place.{Place}
 use Rattle.writer.specs.declared.writing.Refusal.{Refusal}
 use Rattle.writer.specs.declared.writing.Refusal.the-variants.{SetUpRange, ChannelAbove, RunLength, NotAChain, OffsetPast, LeftOver, OutputLength}
-use Rattle.writer.specs.Laying.{fieldOf, leftOverAfter, nothingOf, pointerOf, runPart}
+use Rattle.writer.specs.Laying.{fieldOf, leftOverAfter, mostLeft, nothingOf, pointerOf, runPart}
 
 -- "run over 65,536 octets"
 abbrev pub mostRun : ℕ
@@ -37,7 +37,7 @@ row23 run offset = ltb (length run) offset
 
 -- "left-over above 6, or not zero while the offset is neither 0 nor the run's end"
 unfoldable pub row24 : ℕ → ℕ → ℕ → Bool
-row24 end offset left = ltb 6 left || (not (eqb left 0) && (not (eqb offset 0) && not (eqb offset end)))
+row24 end offset left = ltb mostLeft left || (not (eqb left 0) && (not (eqb offset 0) && not (eqb offset end)))
 
 -- rows 1 and 20 to 25, in the paper's order
 unfoldable pub writeTable : SetUp → ℕ → Place → List ℕ → List ℕ → List (Row Refusal)
@@ -97,5 +97,5 @@ pub record Ready (u : SetUp) (channel : ℕ) (p : Place) (run out : List ℕ) : 
   pub run-fits : length run ≤ mostRun
   pub chain : chainOf run ≡ true
   pub inside : p .offset ≤ length run
-  pub left-fits : p .«left_over» ≤ 6
+  pub left-fits : p .«left_over» ≤ mostLeft
   pub output-whole : length out ≡ u .length

@@ -5,6 +5,7 @@ use frame::ControlWord;
 use frame::Header;
 use frame::MasterCount;
 use frame::SetUp;
+use packet::Packet;
 ghost use mathlib.Core.Path.{_≡_};
 ghost use Rattle.writer.specs.Answers.{numberOf};
 ghost use Rattle.writer.specs.Writing.{Ready, Wrote, WroteBy, row24};
@@ -22,6 +23,11 @@ pub struct Place {
     pub left_over: usize,
     pub master: MasterCount,
     pub count: ChannelCount,
+}
+
+impl Place {
+    // At most all but one of the octets of the shortest idle packet.
+    pub const LEFT_OVER_MAX: usize = Packet::MIN - 1;
 }
 
 // Why no frame is written.
@@ -75,7 +81,7 @@ fn refused(refusal: Refusal, place: Place) -> Written
 fn bad_left_over(run: usize, offset: usize, left_over: usize) -> bool
     ensures { λ r. ⌜ r ≡ row24 run offset «left_over» ⌝ }
 {
-    if 6 < left_over {
+    if Place::LEFT_OVER_MAX < left_over {
         return true;
     }
     if left_over == 0 {
