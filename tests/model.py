@@ -408,7 +408,7 @@ class Script:
 
     # Each command: how many numbers it takes, and whether octets follow them.
     COMMANDS = {"crc": (0, True), "open": (3, True), "close": (9, True), "gap": (2, False),
-                "size": (0, True), "chain": (0, True), "distance": (1, True), "walk": (2, True),
+                "size": (0, True), "header": (0, True), "chain": (0, True), "distance": (1, True), "walk": (2, True),
                 "fresh": (0, False), "paint": (1, False), "lend": (2, False), "channel": (5, False),
                 "hold": (1, True), "read": (3, True), "busy": (0, False), "run": (0, True),
                 "runfill": (2, False), "write": (11, False), "again": (2, False), "back": (0, False)}
@@ -454,6 +454,13 @@ class Script:
         size = packet_size(seen)
         return line("size", ("tells", size if size in ("wait", "foreign") else "total"),
                     ("total", 0 if size in ("wait", "foreign") else size))
+
+    def do_header(self, seen):
+        if len(seen) < 6:
+            return "header outside"
+        *values, length = fields(seen[:6], PACKET_HEADER)
+        names = ["version", "type", "secondary", "application", "grouping", "sequence"]
+        return line("header", *zip(names, values), ("total", length + 7))
 
     def do_chain(self, run):
         return line("chain", ("whole", 0 if boundaries(run) is None else 1))

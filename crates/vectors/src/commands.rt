@@ -6,6 +6,7 @@
 //                                           the octets closed as a frame around the data field in them
 //   gap COUNT LAST                          frames missing between the two counts
 //   size OCTETS                             what the first octets of a packet tell
+//   header OCTETS                           the values of a packet header
 //   chain OCTETS                            whether they are a chain of whole packets
 //   distance OFFSET OCTETS                  from an offset into a chain to the next boundary
 //   walk FROM LIMIT OCTETS                  from packet to packet
@@ -34,6 +35,7 @@ pub enum Plain {
     Close,
     Gap,
     Size,
+    Header,
     Chain,
     Distance,
     Walk,
@@ -105,6 +107,9 @@ pub fn named(word: &[u8]) -> Shape {
     }
     if same(word, b"size") {
         return of_plain(Plain::Size, 0, true);
+    }
+    if same(word, b"header") {
+        return of_plain(Plain::Header, 0, true);
     }
     if same(word, b"chain") {
         return of_plain(Plain::Chain, 0, true);

@@ -82,6 +82,7 @@ fn plain(c: Plain, a: [usize; 11], given: &mut [u8], n: usize) {
         Plain::Close => frames::close(a, &mut given[0..m]),
         Plain::Gap => frames::gap(a),
         Plain::Size => packets::size(&given[0..m]),
+        Plain::Header => packets::header(&given[0..m]),
         Plain::Chain => packets::chain(&given[0..m]),
         Plain::Distance => packets::distance(a[0], &given[0..m]),
         Plain::Walk => packets::walk(a[0], a[1], &given[0..m]),

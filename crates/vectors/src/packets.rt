@@ -9,6 +9,7 @@ use crate::printing::text;
 use crate::printing::value;
 use crate::rooms::OUTPUT;
 use crate::words::Found;
+use packet::Header;
 use packet::Packet;
 use packet::Size;
 use reader::End;
@@ -28,6 +29,21 @@ pub fn size(seen: &[u8]) {
         Size::Foreign => told(b"foreign", 0),
         Size::Total(n) => told(b"total", n),
     }
+}
+
+pub fn header(seen: &[u8]) {
+    if seen.len() < Packet::HEADER {
+        return line(b"header outside");
+    }
+    let h = Header::of(seen);
+    value(b"header version=", h.version as usize);
+    value(b" type=", h.kind as usize);
+    flag(b" secondary=", h.secondary);
+    value(b" application=", h.application);
+    value(b" grouping=", h.grouping as usize);
+    value(b" sequence=", h.sequence);
+    value(b" total=", h.total);
+    end_line();
 }
 
 pub fn chain(run: &[u8]) {
