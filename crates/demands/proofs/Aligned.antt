@@ -15,10 +15,10 @@ use Rattle.packet.specs.declared.source.Size.the-variants.{Wait, Foreign, Total
 use Rattle.packet.proofs.Laws.{empty-waits, foreign-stays, total-stays, size-in-words}
 use Rattle.channel.specs.declared.state.State.{State}
 use Rattle.channel.specs.declared.state.State.the-variants.{Gathering, Skipping}
-use Rattle.reader.specs.declared.walking.End.{End}
-use Rattle.reader.specs.Steps.{Done, ended, endedBy}
-use Rattle.reader.specs.Walk.{Walked, cutOf, walkOf}
-use Rattle.reader.proofs.WalkLaws.{walk-stop, walk-whole, sees-end, sees-few, sees-oversize, sees-packet, sees-cut}
+use Rattle.walk.specs.declared.walking.End.{End}
+use Rattle.walk.specs.Steps.{Done, ended, endedBy}
+use Rattle.walk.specs.Walk.{Walked, cutOf, walkOf}
+use Rattle.walk.proofs.WalkLaws.{walk-stop, walk-whole, sees-end, sees-few, sees-oversize, sees-packet, sees-cut}
 
 -- octets that tell nothing yet are fewer than six
 pub wait-few : (p : List ℕ) → sizeOf p ≡ Wait → length p < 6

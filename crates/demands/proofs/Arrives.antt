@@ -14,8 +14,8 @@ use Rattle.packet.specs.Theorems.{Whole, AllWhole, endToEnd}
 use Rattle.packet.specs.declared.source.Size.the-variants.{Wait, Total}
 use Rattle.packet.proofs.Laws.{total-stays}
 use Rattle.channel.specs.declared.state.State.{State}
-use Rattle.reader.specs.Steps.{ended, hunted, calledAt, agrees, skipped, resumed}
-use Rattle.reader.specs.Walk.{walkOf}
+use Rattle.walk.specs.Steps.{ended, hunted, calledAt, agrees, skipped, resumed}
+use Rattle.walk.specs.Walk.{walkOf}
 use Rattle.demands.specs.History.{lastIn}
 use Rattle.demands.specs.Sender.{Mark, inner}
 use Rattle.demands.proofs.Aligned.{AllFit, wait-few, begin-tells, fit-of}

@@ -32,8 +32,8 @@ use Rattle.channel.specs.declared.state.State.the-variants.{Hunting, Gathering}
 use Rattle.reader.proofs.Laws.{few-enough}
 use Rattle.reader.specs.Answers as reading
 use Rattle.reader.specs.Reading as read
-use Rattle.reader.specs.Steps.{stepsOf, carriesNone, gapFor, hunted, endedBy, courseOf, resumed, gathered, agrees, agreesBy, calledAt}
-use Rattle.reader.specs.Walk.{walkOf, turns, turn, seenOf, front, cutOf, talliedAll, tallied, handed, handedAll}
+use Rattle.walk.specs.Steps.{stepsOf, carriesNone, gapFor, hunted, endedBy, courseOf, resumed, gathered, agrees, agreesBy, calledAt}
+use Rattle.walk.specs.Walk.{walkOf, turns, turn, seenOf, front, cutOf, talliedAll, tallied, handed, handedAll}
 use Rattle.writer.specs.Answers as writing
 use Rattle.writer.specs.Laying.{idlePacket, leftPart, runPart, placedPart, fillerOf, leftAfter, fieldOf, leftOverAfter, pointerOf, nothingOf}
 use Rattle.writer.specs.Writing as write

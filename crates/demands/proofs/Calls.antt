@@ -28,7 +28,7 @@ use Rattle.channel.specs.declared.state.Record.{Record}
 use Rattle.channel.proofs.Laws.{part-own}
 use Rattle.reader.specs.declared.reading.Answer.the-variants.{Accepted}
 use Rattle.reader.specs.Reading.{readTable, recordOf, storeOf, channelOf, doneBy, reportOf, recordAfter, storeAfter, outputAfter, Read}
-use Rattle.reader.specs.Steps.{Done}
+use Rattle.walk.specs.Steps.{Done}
 use Rattle.reader.specs.Theorems.{Keeps}
 use Rattle.reader.proofs.Laws.{accepted-keeps, store-octets, refused-untouched, others-apart}
 use Rattle.reader.proofs.ReadLaws.{at-set-up, at-store, at-none, accepts, refuses}

@@ -13,8 +13,8 @@ use borrow.Author.Tests.{lt-ltb, le-ltb, le-leb, lt-leb}
 use Rattle.octets.specs.Pick.{pick}
 use Rattle.packet.specs.Size.{most, idleOf}
 use Rattle.packet.specs.Theorems.{AllWhole, endToEnd}
-use Rattle.reader.specs.declared.walking.Tally.{Tally}
-use Rattle.reader.specs.Walk.{handed, handedAll, oneIdle, oneDelivered, tallied, talliedAll}
+use Rattle.walk.specs.declared.walking.Tally.{Tally}
+use Rattle.walk.specs.Walk.{handed, handedAll, oneIdle, oneDelivered, tallied, talliedAll}
 use Rattle.demands.specs.History.{allArrived, lastIn, wanted, unwanted}
 use Rattle.demands.proofs.Aligned.{AllFit}
 use Rattle.demands.proofs.Stream.{whole-some}

@@ -15,8 +15,8 @@ use Rattle.packet.specs.declared.source.Size.the-variants.{Wait, Total}
 use Rattle.frame.specs.Opening.{noneStarts}
 use Rattle.channel.specs.declared.state.State.{State}
 use Rattle.channel.specs.declared.state.State.the-variants.{Hunting, Gathering, Skipping}
-use Rattle.reader.specs.Steps.{Done, only, ended, hunted, calledAt, agreesBy, agrees, gathered, skipped}
-use Rattle.reader.specs.Walk.{walkOf}
+use Rattle.walk.specs.Steps.{Done, only, ended, hunted, calledAt, agreesBy, agrees, gathered, skipped}
+use Rattle.walk.specs.Walk.{walkOf}
 use Rattle.demands.specs.Sender.{Mark, inner, laidOut}
 use Rattle.demands.proofs.Aligned.{AllFit, Ran, Standing, exact-ran, exact-state, midst-done}
 use Rattle.demands.proofs.Aligned.Standing.{gathering, skipping}

@@ -19,7 +19,7 @@ use Rattle.channel.specs.Rules.{channelFollows, hunts}
 use Rattle.channel.specs.declared.state.Channel.{Channel}
 use Rattle.channel.specs.declared.state.State.{State}
 use Rattle.channel.specs.declared.state.State.the-variants.{Hunting, Gathering, Skipping}
-use Rattle.reader.specs.Steps.{only, hunted, broke, calledAt, resumed, gapFor, carriesNone, stepsOf}
+use Rattle.walk.specs.Steps.{only, hunted, broke, calledAt, resumed, gapFor, carriesNone, stepsOf}
 use Rattle.demands.specs.History.{mostMissing}
 use Rattle.demands.specs.Sender.{Mark, inner, laidOut}
 use Rattle.demands.proofs.Arrives.{hunted-good, resumed-good}

@@ -22,8 +22,8 @@ use Rattle.channel.specs.declared.state.Channel.{Channel}
 use Rattle.channel.specs.declared.state.Record.{Record}
 use Rattle.channel.proofs.Laws.{each-follows}
 use Rattle.reader.specs.Reading.{fieldOf, channelOf, doneBy, reportOf, recordOf, storeOf, outputAfter}
-use Rattle.reader.specs.Steps.{Done, courseOf, stepsOf, calledAt}
-use Rattle.reader.specs.Walk.{noTally}
+use Rattle.walk.specs.Steps.{Done, courseOf, stepsOf, calledAt}
+use Rattle.walk.specs.Walk.{noTally}
 use Rattle.demands.specs.History.{Harmless, Call, brought, carried, mostMissing, wanted, unwanted}
 use Rattle.demands.specs.History.Event.{lost}
 use Rattle.demands.specs.Sender.{Mark, Octets, Sent, Sends, octetsIn, firstStart, between, inner, laidOut}

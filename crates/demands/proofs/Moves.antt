@@ -8,7 +8,7 @@ use native.Mathlib.Omega.{arith}
 use lib.ListN.{length, replicate, length-append}
 use Rattle.packet.specs.Theorems.{AllWhole, endToEnd}
 use Rattle.channel.specs.declared.state.State.{State}
-use Rattle.reader.specs.Steps.{Done, only, broke}
+use Rattle.walk.specs.Steps.{Done, only, broke}
 use Rattle.channel.specs.declared.state.State.the-variants.{Hunting}
 use Rattle.demands.specs.Sender.{Mark, inner, laidOut, between}
 use Rattle.demands.proofs.Due.{late-all}

@@ -20,7 +20,7 @@ use Rattle.frame.specs.declared.closing.ControlWord.{ControlWord}
 use Rattle.frame.specs.declared.set_up.SetUp.{SetUp}
 use Rattle.frame.proofs.SetUpLaws.{in-range}
 use Rattle.channel.proofs.RuleLaws.{both}
-use Rattle.reader.specs.Steps.{calledAt}
+use Rattle.walk.specs.Steps.{calledAt}
 use Rattle.writer.specs.Laying.{shortIdle, runPart, placedPart, leftAfter, leftOverAfter, nothingOf, pointerOf}
 use Rattle.writer.specs.Writing.{nextOf, nextPlace, outputOf, frameWritten}
 use Rattle.writer.specs.declared.writing.Place.{Place}

@@ -27,11 +27,11 @@ use Rattle.channel.specs.declared.state.State.{State}
 use Rattle.channel.specs.declared.state.State.the-variants.{Hunting, Gathering, Skipping}
 use Rattle.channel.proofs.Laws.{each-follows}
 use Rattle.reader.specs.Reading.{answerOf, recordOf, storeOf, fieldOf, channelOf, doneBy, reportOf}
-use Rattle.reader.specs.Steps.{Done, only, ended, endedBy, hunted, brokenBy, calledAt, agrees, gathered, skipped, disagreed, resumed, gapFor}
-use Rattle.reader.specs.Walk.{Walked, walkOf}
+use Rattle.walk.specs.Steps.{Done, only, ended, endedBy, hunted, brokenBy, calledAt, agrees, gathered, skipped, disagreed, resumed, gapFor}
+use Rattle.walk.specs.Walk.{Walked, walkOf}
 use Rattle.reader.specs.declared.reading.Answer.the-variants.{Accepted}
 use Rattle.reader.specs.declared.reading.Report.{Report}
-use Rattle.reader.specs.declared.walking.End.{End}
+use Rattle.walk.specs.declared.walking.End.{End}
 use Rattle.demands.specs.Demand2.{Roomy, Smooth}
 use Rattle.demands.specs.History.{carried}
 use Rattle.demands.specs.Sender.{Sent, laidOut}

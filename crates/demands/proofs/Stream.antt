@@ -14,7 +14,7 @@ use Rattle.octets.specs.Pick.{pick}
 use Rattle.packet.specs.Theorems.{Whole, AllWhole, endToEnd}
 use Rattle.packet.proofs.Laws.{total-least}
 use Rattle.frame.specs.Opening.{noneStarts}
-use Rattle.reader.specs.Steps.{calledAt}
+use Rattle.walk.specs.Steps.{calledAt}
 use Rattle.demands.specs.Sender.{Mark, inner, marksOf, laidOut, octetsIn, firstStart}
 
 -- marks and octets

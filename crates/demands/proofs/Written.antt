@@ -16,7 +16,7 @@ use Rattle.frame.specs.declared.closing.ControlWord.the-variants.{Absent, Prese
 use Rattle.frame.specs.declared.opening.Frame.{Frame}
 use Rattle.frame.specs.declared.set_up.SetUp.{SetUp}
 use Rattle.reader.specs.Reading as reading
-use Rattle.reader.proofs.OctetLaws.{octets-append, octets-drop, octets-take}
+use Rattle.walk.proofs.OctetLaws.{octets-append, octets-drop, octets-take}
 use Rattle.writer.specs.Laying.{idlePacket, shortIdle, leftPart, runPart, placedPart, fillerOf, fieldOf}
 use Rattle.writer.specs.Writing.{frameWritten, laidField, laidPointer}
 use Rattle.writer.specs.declared.writing.Place.{Place}

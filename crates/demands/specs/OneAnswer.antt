@@ -37,11 +37,11 @@ use Rattle.channel.specs.declared.state.Record.{Record}
 use Rattle.channel.specs.declared.state.State.{State}
 use Rattle.reader.specs.Answers as readAnswers
 use Rattle.reader.specs.Reading.{Read}
-use Rattle.reader.specs.Walk.{walkOf, handedAll, finished}
+use Rattle.walk.specs.Walk.{walkOf, handedAll, finished}
 use Rattle.reader.specs.declared.reading.Answer.{Answer}
 use Rattle.reader.specs.declared.reading.Refusal.{Refusal as ReadRefusal}
-use Rattle.reader.specs.declared.walking.Ended.{Ended}
-use Rattle.reader.specs.declared.walking.Tally.{Tally}
+use Rattle.walk.specs.declared.walking.Ended.{Ended}
+use Rattle.walk.specs.declared.walking.Tally.{Tally}
 use Rattle.writer.specs.Answers as writeAnswers
 use Rattle.writer.specs.Writing.{Wrote}
 use Rattle.writer.specs.declared.writing.Answer.{Answer as WriteAnswer}

@@ -17,10 +17,10 @@ use Rattle.channel.specs.declared.state.Record.{Record}
 use Rattle.channel.proofs.Laws.{part-inside, each-follows}
 use Rattle.channel.proofs.PartLaws.{cut-part}
 use Rattle.reader.specs.declared.reading.Answer.the-variants.{Accepted}
-use Rattle.reader.specs.declared.steps.Course.{Course}
-use Rattle.reader.specs.declared.steps.Kind.{Kind}
+use Rattle.walk.specs.declared.stepping.Course.{Course}
+use Rattle.reader.specs.declared.reading.Kind.{Kind}
 use Rattle.reader.specs.Reading.{kindOf, fieldOf, channelOf, reportOf, recordAfter, storeAfter, outputAfter, ReadBy, Ready}
-use Rattle.reader.specs.Steps.{Did, Fit, courseOf, gapFor, stepsOf}
+use Rattle.walk.specs.Steps.{Did, Fit, courseOf, gapFor, stepsOf}
 
 -- in a record that keeps the rules each channel does; one that is not there stands for a fresh one
 pub own-follows : (limit : ℕ) (store : List ℕ) (rec : Record) (v : ℕ) → recordFollows limit store rec ≡ true

@@ -18,13 +18,14 @@ use Rattle.channel.specs.Store.{partOf}
 use Rattle.channel.specs.declared.state.Record.{Record}
 use Rattle.channel.proofs.Laws.{part-own, part-length, part-apart, each-follows}
 use Rattle.reader.specs.Reading.{fieldOf, channelOf, doneBy, reportOf, recordAfter, storeAfter, outputAfter, Ready}
-use Rattle.reader.specs.Steps.{courseOf}
-use Rattle.reader.specs.Theorems.{Octets, skipEnded}
-use Rattle.reader.specs.Walk.{noTally, handedAll}
+use Rattle.walk.specs.Steps.{courseOf}
+use Rattle.walk.specs.Theorems.{Octets}
+use Rattle.reader.specs.Theorems.{skipEnded}
+use Rattle.walk.specs.Walk.{noTally, handedAll}
 use Rattle.reader.proofs.AcceptLaws.{own-follows, field-length, part-whole}
-use Rattle.reader.proofs.FewLaws.{counted, steps-few}
-use Rattle.reader.proofs.KeepLaws.{LeavesBy, state-follows, steps-leave}
-use Rattle.reader.proofs.OctetLaws.{octets-take, octets-drop, octets-laid, octets-part, octets-with}
+use Rattle.walk.proofs.FewLaws.{counted, steps-few}
+use Rattle.walk.proofs.KeepLaws.{LeavesBy, state-follows, steps-leave}
+use Rattle.walk.proofs.OctetLaws.{octets-take, octets-drop, octets-laid, octets-part, octets-with}
 
 module _ (rec : Record) (x : Frame) (f store out : List ℕ) (r : Ready rec x f store out) where
   own-channel : channelFollows most (partOf most (x .header .channel) store) (channelOf x rec) ≡ true

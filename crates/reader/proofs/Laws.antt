@@ -21,10 +21,11 @@ use Rattle.reader.specs.declared.reading.Refusal.the-variants.{OfFrame, 
 use Rattle.reader.specs.declared.reading.Report.{Report}
 use Rattle.reader.specs.Answers.{numberOf, valuesOf}
 use Rattle.reader.specs.Reading.{readTable, channelOf, doneBy, reportOf, answerOf, storeOf, Ready}
-use Rattle.reader.specs.Theorems.{Octets, Number-exactly, Refused-zero, Accepted-exactly, Refused-untouched, Accepted-keeps, Others-apart, Few-enough, Walk-few}
+use Rattle.walk.specs.Theorems.{Octets, Walk-few}
+use Rattle.reader.specs.Theorems.{Number-exactly, Refused-zero, Accepted-exactly, Refused-untouched, Accepted-keeps, Others-apart, Few-enough}
 use Rattle.reader.proofs.AfterLaws.{store-kept, output-kept, channels-kept, octets-kept, other-part, other-channel, record-kept, done-few}
 use Rattle.reader.proofs.ReadLaws.{LeftBy, found-none, found-cause, leaves, ready, refuses}
-use Rattle.reader.proofs.WalkLaws.{walk-count}
+use Rattle.walk.proofs.WalkLaws.{walk-count}
 
 -- a number tells its refusal: the reader's own numbers are none of the frame part's
 abbrev own : ℕ → Refusal → Refusal

@@ -1,13 +1,4 @@
 pub mod AcceptLaws
 pub mod AfterLaws
-pub mod CutLaws
-pub mod DoneLaws
-pub mod EndLaws
-pub mod FewLaws
-pub mod GatherLaws
-pub mod KeepLaws
 pub mod Laws
-pub mod OctetLaws
 pub mod ReadLaws
-pub mod StepLaws
-pub mod WalkLaws

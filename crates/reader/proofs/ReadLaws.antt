@@ -30,7 +30,7 @@ use Rattle.reader.specs.declared.reading.Outcome.{Outcome}
 use Rattle.reader.specs.declared.reading.Refusal.{Refusal}
 use Rattle.reader.specs.declared.reading.Refusal.the-variants.{OfFrame, StoreLength, OutputLength, BrokenRecord}
 use Rattle.reader.specs.declared.reading.Report.{Report}
-use Rattle.reader.specs.declared.steps.Kind.the-variants.{Packets, Idle, Private}
+use Rattle.reader.specs.declared.reading.Kind.the-variants.{Packets, Idle, Private}
 use Rattle.reader.specs.Reading.{kindOf, ofFrame, readTable, channelOf, doneBy, reportOf, recordAfter, storeAfter, outputAfter, answerOf, recordOf, storeOf, outputOf, Read, ReadBy, Ready}
 
 -- the kind of a frame

@@ -8,8 +8,8 @@ use Rattle.reader.specs.declared.reading.Answer.the-variants.{Refused, A
 use Rattle.reader.specs.declared.reading.Refusal.{Refusal}
 use Rattle.reader.specs.declared.reading.Refusal.the-variants.{OfFrame, StoreLength, OutputLength, BrokenRecord}
 use Rattle.reader.specs.declared.reading.Report.{Report}
-use Rattle.reader.specs.declared.steps.Kind.{Kind}
-use Rattle.reader.specs.declared.steps.Kind.the-variants.{Packets, Idle, Private}
+use Rattle.reader.specs.declared.reading.Kind.{Kind}
+use Rattle.reader.specs.declared.reading.Kind.the-variants.{Packets, Idle, Private}
 
 -- the number of each refusal
 abbrev pub numberOf : Refusal → ℕ

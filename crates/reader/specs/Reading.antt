@@ -28,11 +28,11 @@ use Rattle.reader.specs.declared.reading.Answer.the-variants.{Refused, A
 use Rattle.reader.specs.declared.reading.Refusal.{Refusal}
 use Rattle.reader.specs.declared.reading.Refusal.the-variants.{OfFrame, StoreLength, OutputLength, BrokenRecord}
 use Rattle.reader.specs.declared.reading.Report.{Report}
-use Rattle.reader.specs.declared.steps.Kind.{Kind}
-use Rattle.reader.specs.declared.steps.Kind.the-variants.{Packets, Idle, Private}
-use Rattle.reader.specs.declared.walking.Tally.{Tally}
-use Rattle.reader.specs.Steps.{Done, courseOf, gapFor, stepsOf}
-use Rattle.reader.specs.Walk.{handedAll}
+use Rattle.reader.specs.declared.reading.Kind.{Kind}
+use Rattle.reader.specs.declared.reading.Kind.the-variants.{Packets, Idle, Private}
+use Rattle.walk.specs.declared.walking.Tally.{Tally}
+use Rattle.walk.specs.Steps.{Done, courseOf, gapFor, stepsOf}
+use Rattle.walk.specs.Walk.{handedAll}
 
 -- row 2: the store is not 32,768 octets
 abbrev pub row2 : List ℕ → Bool

@@ -24,8 +24,8 @@ use Rattle.reader.specs.declared.reading.Refusal.{Refusal}
 use Rattle.reader.specs.declared.reading.Report.{Report}
 use Rattle.reader.specs.Answers.{numberOf, valuesOf}
 use Rattle.reader.specs.Reading.{readTable, answerOf, recordOf, storeOf, outputOf, channelOf, fieldOf}
-use Rattle.reader.specs.Steps.{calledAt, carriesNone, gapFor}
-use Rattle.reader.specs.Walk.{walkOf}
+use Rattle.walk.specs.Theorems.{Octets, skipsOut}
+use Rattle.walk.specs.Steps.{carriesNone, gapFor}
 
 -- a number is given exactly when its cause holds and no earlier one does
 abbrev pub Number-exactly : Type 0
@@ -52,10 +52,6 @@ abbrev pub Refused-untouched : Type 0
 Refused-untouched = (u : SetUp) (rec : Record) (store out f : List ℕ) (r : Refusal)
     → answerOf u rec store out f ≡ Refused r → Untouched u rec store out f
 
--- a run of octets: each is below 256, as in every slice that code is lent
-abbrev pub Octets : List ℕ → Type 0
-Octets l = (i : ℕ) → getD l i 0 < 256
-
 -- every accepted frame keeps the rules of the record, and the lengths
 pub record Keeps (u : SetUp) (rec : Record) (store out f : List ℕ) : Type 0 where
   pub follows : recordFollows most (storeOf u rec store out f) (recordOf u rec store out f) ≡ true
@@ -76,12 +72,7 @@ abbrev pub Others-apart : Type 0
 Others-apart = (u : SetUp) (rec : Record) (store out f : List ℕ) (a : Report) (w : ℕ)
     → answerOf u rec store out f ≡ Accepted a → w < channels → (w ≡ a .header .channel → ⊥) → Apart u rec store out f w
 
--- a skip ended in this frame: the channel skipped r octets, went on, and r lie within the field
-unfoldable pub skipsOut : State → ℕ → ℕ → Bool
-skipsOut Hunting pointer D = false
-skipsOut (Gathering k) pointer D = false
-skipsOut (Skipping r) pointer D = eqb pointer (calledAt D r) && leb r D
-
+-- a skip ended in this frame: it carries packets, there is no gap, and the channel skipped to a place within the field
 abbrev pub skipEnded : Frame → Record → ℕ
 skipEnded x rec =
     pick (carriesNone (x .header)) 0
@@ -92,7 +83,3 @@ skipEnded x rec =
 abbrev pub Few-enough : Type 0
 Few-enough = (u : SetUp) (rec : Record) (store out f : List ℕ) (a : Report) → answerOf u rec store out f ≡ Accepted a
     → a .delivered + a .idle + skipEnded (frameOf u f) rec ≤ (frameOf u f .size + 6) / 7
-
--- the walk's part of it: whole packets are at most one for each seven octets
-abbrev pub Walk-few : Type 0
-Walk-few = (limit : ℕ) (d : List ℕ) → length (walkOf limit d .whole) ≤ length d / 7

@@ -1,6 +1,3 @@
-use crate::steps::Kind;
-use crate::steps::gap_for;
-use crate::steps::steps;
 use channel::Channel;
 use channel::Output;
 use channel::Record;
@@ -11,9 +8,18 @@ use frame::Header;
 use frame::Opened;
 use frame::SetUp;
 use packet::Packet;
+use walk::gap_for;
+use walk::steps;
 ghost use mathlib.Core.Path.{_≡_};
 ghost use Rattle.reader.specs.Answers.{numberOf};
 ghost use Rattle.reader.specs.Reading.{Read, ReadBy, Ready, kindOf};
+
+// What a frame carries: packets, idle data only, or private data.
+pub enum Kind {
+    Packets,
+    Idle,
+    Private,
+}
 
 // Why a call is refused: what the frame part says, or one of the reader's own tests.
 pub enum Refusal {

@@ -12,9 +12,9 @@ use crate::words::Found;
 use packet::Header;
 use packet::Packet;
 use packet::Size;
-use reader::End;
-use reader::Ended;
-use reader::Tally;
+use walk::End;
+use walk::Ended;
+use walk::Tally;
 
 fn told(tells: &[u8], total: usize) {
     text(b"size tells=");
@@ -106,7 +106,7 @@ fn walk_into(from: usize, limit: usize, field: &[u8], output: &mut [u8; OUTPUT])
         idle: 0,
         filled: 0,
     };
-    let e = reader::walk(field, from, limit, output, start);
+    let e = walk::walk(field, from, limit, output, start);
     ended(e, output);
 }
 

@@ -1,0 +1,101 @@
+-- What a part of the steps did, put together: nothing, a walk and its settled end, a packet broken off, a disagreement.
+-- Assumes nothing.
+use mathlib.Core.Path.{_≡_, refl, sym}
+use mathlib.Core.List.{List, []}
+use Prim.Native.Nat.{ℕ, _-_, _≤_, _<_}
+use lib.ListN.{length, drop}
+use Rattle.octets.specs.Laid.{laid}
+use Rattle.octets.proofs.Runs.{laid-nil}
+use Rattle.packet.specs.Size.{sizeOf}
+use Rattle.packet.specs.declared.source.Size.the-variants.{Foreign, Total}
+use Rattle.channel.specs.declared.state.State.{State}
+use Rattle.channel.specs.declared.state.State.the-variants.{Hunting, Skipping}
+use Rattle.walk.specs.declared.stepping.Course.{Course}
+use Rattle.walk.specs.declared.walking.End.{End}
+use Rattle.walk.specs.declared.walking.Ended.{Ended}
+use Rattle.walk.specs.declared.walking.Tally.{Tally}
+use Rattle.walk.specs.declared.walking.Seen.the-variants.{Stop}
+use Rattle.walk.specs.Walk.{cutOf, seenOf, walkOf, handedAll, noTally, talliedAll, finished}
+use Rattle.walk.specs.Steps.{Done, Did, broke, brokenCourse, courseBy, courseOf, disagreed, disagreedCourse, ended, endedBy, heldBy}
+use Rattle.walk.proofs.CutLaws.{held-in}
+use Rattle.walk.proofs.WalkLaws.{walk-stop, sees-foreign, sees-oversize}
+
+-- what was done, by another name
+pub did-as : {d d′ : Done} {course : Course} {part part′ out out′ : List ℕ} → d ≡ d′ → Did d′ course part part′ out out′
+    → Did d course part part′ out out′
+did-as e h = rw e h
+
+-- no packet and no held octets: only the state and two counts
+pub did-nothing : (s : State) (f o : ℕ) (t : Tally) (course : Course) (part out : List ℕ) → t ≡ noTally
+    → course ≡ record { tally = t; state = s; broken = 0; disagreement = 0; foreign = f; oversize = o }
+    → Did (record { state = s; held = []; whole = []; broken = 0; disagreement = 0; foreign = f; oversize = o }) course part part out out
+unfolding courseOf talliedAll handedAll
+did-nothing s f o t course part out z e =
+    record { reports = rw z at e; holds = sym (laid-nil part 0); hands = sym (laid-nil out 0) }
+
+-- a walk that stops at once
+module _ (limit : ℕ) (d : List ℕ) where
+  ended-stop : (e : End) → Stop e ≡ seenOf limit d → ended (walkOf limit d) ≡ endedBy e [] (cutOf e d)
+  ended-stop e s = rw (walk-stop limit d e (sym s))
+
+  pub ended-foreign : sizeOf d ≡ Foreign
+      → ended (walkOf limit d)
+      ≡ record { state = Hunting; held = []; whole = []; broken = 0; disagreement = 0; foreign = 1; oversize = 0 }
+  unfolding endedBy
+  ended-foreign e = ended-stop End.Foreign (sees-foreign limit d e)
+
+  pub ended-oversize : (n there : ℕ) → sizeOf d ≡ Total n → limit < n → length d ≡ there
+      → ended (walkOf limit d)
+      ≡ record { state = Skipping (n - there); held = []; whole = []; broken = 0; disagreement = 0; foreign = 0; oversize = 1 }
+  unfolding endedBy
+  ended-oversize n there e h l = rw (← l) (ended-stop (End.Oversize (n - length d)) (sees-oversize limit d n e h))
+
+  -- all of it is held
+  pub did-hold : (course : Course) (part part′ out : List ℕ) (there : ℕ) → Stop (End.Cut (length d)) ≡ seenOf limit d → length d ≡ there
+      → course ≡ courseBy noTally (End.Cut there) → part′ ≡ laid part 0 d → Did (ended (walkOf limit d)) course part part′ out out
+  unfolding endedBy cutOf courseBy courseOf talliedAll handedAll
+  did-hold course part part′ out there s l reports holds =
+      did-as (ended-stop (End.Cut (length d)) s)
+      (record { reports = rw l reports; holds = holds; hands = sym (laid-nil out 0) })
+
+-- with the packet under way broken, and with a disagreement besides
+module _ (s : State) {d : Done} {course c : Course} {part part′ out out′ : List ℕ} (h : Did d course part part′ out out′) where
+  pub did-broke : c ≡ brokenCourse s course → Did (broke s d) c part part′ out out′
+  unfolding courseOf
+  did-broke e = record { reports = rw (h .reports) at e; holds = h .holds; hands = h .hands }
+
+  pub did-disagreed : c ≡ disagreedCourse s course → Did (disagreed s d) c part part′ out out′
+  unfolding courseOf
+  did-disagreed e = record { reports = rw (h .reports) at e; holds = h .holds; hands = h .hands }
+
+-- what the code reports of an end, and the whole packets
+course-by : (e : End) (ws : List (List ℕ)) (rest : List ℕ) → courseBy (talliedAll noTally ws) e ≡ courseOf (endedBy e ws rest)
+unfolding courseBy courseOf endedBy
+course-by End.Foreign ws rest = refl
+course-by End.Exact ws rest = refl
+course-by (End.Cut k) ws rest = refl
+course-by (End.Oversize r) ws rest = refl
+
+whole-by : (e : End) (ws : List (List ℕ)) (rest : List ℕ) → endedBy e ws rest .whole ≡ ws
+unfolding endedBy
+whole-by End.Foreign ws rest = refl
+whole-by End.Exact ws rest = refl
+whole-by (End.Cut k) ws rest = refl
+whole-by (End.Oversize r) ws rest = refl
+
+-- a run d whose walk ends as the one over the field from a place on, and what was settled at its end
+module _ (limit : ℕ) (field : List ℕ) (from : ℕ) (inside : from ≤ length field) (course : Course) (part part′ out out′ : List ℕ) (e : Ended) where
+  pub did-walk : (d : List ℕ) → walkOf limit d .end ≡ walkOf limit (drop from field) .end
+      → walkOf limit d .rest ≡ walkOf limit (drop from field) .rest → (t : Tally) → t ≡ noTally → e ≡ finished t (walkOf limit d)
+      → out′ ≡ laid out (t .filled) (handedAll (walkOf limit d .whole))
+      → course ≡ courseBy (e .tally) (e .end) → part′ ≡ laid part 0 (heldBy (e .end) field)
+      → Did (ended (walkOf limit d)) course part part′ out out′
+  unfolding finished
+  did-walk d ends rests t z f hands reports holds =
+      let w = walkOf limit d in
+      let v = walkOf limit (drop from field) in
+      record {
+        reports = rw (reports, f, z) (course-by (w .end) (w .whole) (w .rest));
+        holds = rw (holds, f, rests, ends, held-in limit field from inside (v .end) refl (w .whole));
+        hands = rw (whole-by (w .end) (w .whole) (w .rest)) (rw z at hands);
+      }

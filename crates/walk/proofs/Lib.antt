@@ -1,0 +1,9 @@
+pub mod CutLaws
+pub mod DoneLaws
+pub mod EndLaws
+pub mod FewLaws
+pub mod GatherLaws
+pub mod KeepLaws
+pub mod OctetLaws
+pub mod StepLaws
+pub mod WalkLaws

@@ -1,0 +1,87 @@
+-- The walk from packet to packet (01, step 5), over the limit of a delivered packet.
+use mathlib.Core.Bool.{Bool, true, false}
+use mathlib.Core.List.{List, [], _∷_, _++_}
+use Prim.Native.Nat.{ℕ, zero, suc, _+_, _-_}
+use lib.Dec.{eqb, ltb, leb}
+use lib.ListN.{length, take, drop}
+use Rattle.octets.specs.Pick.{pick}
+use Rattle.packet.specs.Size.{sizeOf, idleOf}
+use Rattle.packet.specs.declared.source.Size.{Size}
+use Rattle.packet.specs.declared.source.Size.the-variants.{Wait, Foreign, Total}
+use Rattle.walk.specs.declared.walking.End.{End}
+use Rattle.walk.specs.declared.walking.Seen.{Seen}
+use Rattle.walk.specs.declared.walking.Seen.the-variants.{Stop, Whole}
+use Rattle.walk.specs.declared.walking.Tally.{Tally}
+use Rattle.walk.specs.declared.walking.Ended.{Ended}
+
+-- what stands at the front of d: "a version other than 000 gives foreign 1"; "A total above 4,096 gives oversize 1 [..]; then skip";
+-- "A packet cut by the field's end is held. An exact end is gathering 0."
+unfoldable pub front : ℕ → Size → ℕ → Seen
+front limit Wait n = Stop (pick (eqb n 0) End.Exact (End.Cut n))
+front limit Foreign n = Stop End.Foreign
+front limit (Total t) n =
+    pick (ltb limit t) (Stop (End.Oversize (t - n)))
+    (pick (leb t n) (Whole t) (Stop (End.Cut n)))
+
+unfoldable pub seenOf : ℕ → List ℕ → Seen
+seenOf limit d = front limit (sizeOf d) (length d)
+
+-- what a run of octets holds: its whole packets in order, why the walk ended, and the octets of a packet that was cut
+pub record Walked : Type 0 where
+  pub whole : List (List ℕ)
+  pub end : End
+  pub rest : List ℕ
+
+-- the octets of a cut packet, and none for another end
+unfoldable pub cutOf : End → List ℕ → List ℕ
+cutOf End.Foreign d = []
+cutOf End.Exact d = []
+cutOf (End.Cut k) d = d
+cutOf (End.Oversize r) d = []
+
+-- one turn of the walk: it ends here, or a whole packet stands here and the walk goes on behind it
+unfoldable pub turn : Seen → List ℕ → (List ℕ → Walked) → Walked
+turn (Stop e) d on = record { whole = []; end = e; rest = cutOf e d }
+turn (Whole n) d on =
+    let w : Walked = on (drop n d) in
+    record { whole = take n d ∷ w .whole; end = w .end; rest = w .rest }
+
+-- at most so many turns; no packet is shorter than an octet, so that as many turns as octets, and one, are enough
+unfoldable pub turns : ℕ → ℕ → List ℕ → Walked
+turns limit zero d = record { whole = []; end = End.Exact; rest = [] }
+turns limit (suc f) d = turn (seenOf limit d) d (turns limit f)
+
+unfoldable pub walkOf : ℕ → List ℕ → Walked
+walkOf limit d = turns limit (suc (length d)) d
+
+-- "A finished packet is delivered, or counted if idle": the octets that it gives to the output
+unfoldable pub handed : List ℕ → List ℕ
+handed p = pick (idleOf p) [] p
+
+-- "Delivered packets stand end to end"
+unfoldable pub handedAll : List (List ℕ) → List ℕ
+handedAll [] = []
+handedAll (p ∷ ps) = handed p ++ handedAll ps
+
+-- no packet yet
+abbrev pub noTally : Tally
+noTally = record { delivered = 0; idle = 0; filled = 0 }
+
+-- the counts after one more idle packet, and after a delivered one of n octets
+abbrev pub oneIdle : Tally → Tally
+oneIdle t = record { delivered = t .delivered; idle = t .idle + 1; filled = t .filled }
+
+abbrev pub oneDelivered : Tally → ℕ → Tally
+oneDelivered t n = record { delivered = t .delivered + 1; idle = t .idle; filled = t .filled + n }
+
+-- the counts after one more whole packet, and after all of them
+unfoldable pub tallied : Tally → List ℕ → Tally
+tallied t p = pick (idleOf p) (oneIdle t) (oneDelivered t (length p))
+
+unfoldable pub talliedAll : Tally → List (List ℕ) → Tally
+talliedAll t [] = t
+talliedAll t (p ∷ ps) = talliedAll (tallied t p) ps
+
+-- what a walk that starts with counts t comes to
+unfoldable pub finished : Tally → Walked → Ended
+finished t w = record { tally = talliedAll t (w .whole); end = w .end }
