@@ -1,0 +1,7 @@
+pub mod AnswerLaws
+pub mod BusyLaws
+pub mod CallLaws
+pub mod FitLaws
+pub mod Laws
+pub mod OwnLaws
+pub mod WordLaws

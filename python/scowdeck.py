@@ -1,0 +1,366 @@
+r"""Scowdeck for Python: telemetry frames in, packets out per virtual channel.
+
+It calls the proved library through ctypes and needs the standard library alone. The shared library is
+target/native/libscowdeck.so of the repository, which `./make-lib` makes, or the file that the
+environment variable SCOWDECK_LIB names.
+
+    >>> from scowdeck import Desk, Place, Refused
+    >>> desk = Desk(length=20, spacecraft=171)
+    >>> packet = bytes.fromhex("0123C0050001DEAD")
+    >>> frame, place = desk.write(3, packet, Place(master_count=9, channel_count=4))
+    >>> frame.hex()
+    '0ab6090418000123c0050001dead07ffc0000000'
+    >>> report = desk.read(frame)
+    >>> report.channel, report.gap, [packet.hex() for packet in report.packets]
+    (3, 0, ['0123c0050001dead'])
+
+A refusal is an exception, so that a refused frame is never taken for a good one. It has the number
+and the words of the paper's table, and nothing was changed:
+
+    >>> try:
+    ...     desk.read(frame[:-1])
+    ... except Refused as refusal:
+    ...     print(refusal.number, refusal.words)
+    5 the frame is not N octets
+
+A desk keeps its record and its store inside. They mean nothing without each other, so they are saved
+and loaded together:
+
+    >>> saved = desk.save()
+    >>> later = Desk.load(saved, length=20, spacecraft=171)
+    >>> later.busy()
+    Busy(mask=8, ones=1, lowest=3)
+"""
+import ctypes
+import enum
+import os
+import pathlib
+import struct
+import typing
+from dataclasses import dataclass
+
+__all__ = ["Busy", "Desk", "Kind", "LoadError", "Place", "Refused", "Report", "WORDS", "library", "syndrome"]
+
+CHANNELS = 8
+RECORD_WORDS = 32
+STORE_OCTETS = 32768
+OUTPUT_OCTETS = 6144
+READ_WORDS, WRITE_WORDS, BUSY_WORDS = 20, 5, 3
+
+#: The paper's words for each refusal.
+WORDS = {
+    1: "N or the spacecraft number is outside its range",
+    2: "the store is not 32,768 octets",
+    3: "the output is under 6,144 octets",
+    4: "one of the eight records breaks the rules",
+    5: "the frame is not N octets",
+    6: "error control is set up and the syndrome is not zero",
+    7: "the frame version is not 00",
+    8: "the spacecraft number differs",
+    9: "the secondary header flag is set and that header's version is not 00",
+    10: "the data field would be below 1 octet",
+    11: "synchronisation flag 0, and either order flag not 0 or segment id not 11",
+    12: "synchronisation flag 0, and pointer neither inside the data field nor 2046 nor 2047",
+    20: "the channel is above 7",
+    21: "the run is over 65,536 octets",
+    22: "the run is not a chain of whole version 000 packets",
+    23: "the offset is past the run's end",
+    24: "left-over above 6, or not zero while the offset is neither 0 nor the run's end",
+    25: "the output is not N octets",
+}
+
+
+class Refused(Exception):
+    """A call was refused: `number` of the paper's table and its `words`. Nothing was changed."""
+
+    def __init__(self, number):
+        self.number = number
+        self.words = WORDS.get(number, "no number of the paper")
+        super().__init__("refusal %d: %s" % (number, self.words))
+
+    def __reduce__(self):
+        return Refused, (self.number,)
+
+
+class LoadError(ValueError):
+    """Octets that are no saved desk, or not a whole one, or a damaged one."""
+
+
+class Kind(enum.IntEnum):
+    """What an accepted frame is."""
+
+    PACKETS = 1
+    IDLE = 2
+    PRIVATE = 3
+
+
+class Place(typing.NamedTuple):
+    """Where a writing stands: each call is given the place that the last one returned.
+
+    A new run of packets starts at offset 0 with the left-over and the counts of the last place:
+    `place._replace(offset=0)`.
+    """
+
+    offset: int = 0
+    left_over: int = 0
+    master_count: int = 0
+    channel_count: int = 0
+
+
+class Busy(typing.NamedTuple):
+    """Bit 2^v of `mask` is set when channel v skips or holds octets; `lowest` is 8 if none does."""
+
+    mask: int
+    ones: int
+    lowest: int
+
+
+@dataclass(frozen=True)
+class Report:
+    """What an accepted frame gave.
+
+    `control_word` is None if the frame has none. `gap` is how many frames of this channel are
+    missing before this one, modulo 256. `packets` are the delivered ones, in order; `idle` counts
+    the idle packets that ended in this frame. The other counts are 0 or 1: a packet under way was
+    given up (`broken`), the pointer was not the one that the packet under way called for
+    (`disagreement`), a packet of another version ended the walk (`foreign`), a packet of more than
+    4,096 octets began to be skipped (`oversize`).
+    """
+
+    kind: Kind
+    spacecraft: int
+    channel: int
+    master_count: int
+    channel_count: int
+    secondary_header: bool
+    synchronisation: bool
+    order: bool
+    segment: int
+    pointer: int
+    control_word: typing.Optional[int]
+    gap: int
+    packets: typing.Tuple[bytes, ...]
+    idle: int
+    broken: int
+    disagreement: int
+    foreign: int
+    oversize: int
+
+    @property
+    def delivered(self):
+        """How many packets were delivered."""
+        return len(self.packets)
+
+
+# ---------------------------------------------------------------- the library
+
+_LOADED = None
+
+
+def library():
+    """The shared library, with the four functions of include/scowdeck.h and their types.
+
+    For calls that a Desk does not make: other lengths of record, store, output and answer. A slice is
+    a ctypes array (or bytes, where it is only read, or None for length 0) and its length.
+    """
+    global _LOADED
+    if _LOADED is None:
+        beside = pathlib.Path(__file__).resolve().parent.parent / "target" / "native" / "libscowdeck.so"
+        path = os.environ.get("SCOWDECK_LIB") or str(beside)
+        if not os.path.exists(path):
+            raise FileNotFoundError("there is no %s: run ./make-lib, or name the file in SCOWDECK_LIB" % path)
+        _LOADED = _typed(ctypes.CDLL(path))
+    return _LOADED
+
+
+def _typed(found):
+    octet, word = ctypes.c_uint8, ctypes.c_uint32
+    piece = [ctypes.c_void_p, ctypes.c_size_t]
+    for name, types in [
+            ("read", [word] * 3 + piece * 5),
+            ("write", [word] * 4 + [octet] * 2 + [word] * 2 + piece + [word] * 2 + piece * 2),
+            ("busy", piece * 2),
+            ("syndrome", piece)]:
+        function = getattr(found, "scowdeck_" + name)
+        function.argtypes, function.restype = types, word
+    return found
+
+
+def _octets(value):
+    """Anything with octets in it, but no number and no text."""
+    return value if isinstance(value, bytes) else bytes(memoryview(value))
+
+
+def _number(value):
+    """A number for a place that the library tests. One that no 32 bits hold goes over as the greatest
+    of 32 bits, which every one of those tests refuses as it would refuse the number itself."""
+    value = int(value.__index__())
+    return value if 0 <= value < 2**32 else 2**32 - 1
+
+
+def _bits(value, width, name):
+    """A number for a place that takes any value of so many bits."""
+    value = int(value.__index__())
+    if not 0 <= value < 2**width:
+        raise ValueError("%s is %d, which is not 0 to %d" % (name, value, 2**width - 1))
+    return value
+
+
+def syndrome(octets):
+    """The syndrome of any octets: 0 for a whole good frame, the error control field for the octets
+    before it.
+
+    >>> hex(syndrome(b"123456789"))
+    '0x29b1'
+    >>> hex(syndrome(b""))
+    '0xffff'
+    """
+    octets = _octets(octets)
+    return library().scowdeck_syndrome(octets, len(octets))
+
+
+# ---------------------------------------------------------------- saving
+
+# A saved desk: this name, the form's number, the record's 32 words big-endian, the store's octets, and
+# the error control field over all of it. The Rust wrapper's form is the same.
+_NAME = b"SCOWDECK"
+_FORM = b"\x01"
+_SAVED = struct.Struct(">9s32I%dsH" % STORE_OCTETS)
+
+
+def _pack(words, store):
+    whole = _SAVED.pack(_NAME + _FORM, *words, bytes(store), 0)[:-2]
+    return whole + struct.pack(">H", syndrome(whole))
+
+
+def _unpack(saved):
+    if saved[:8] != _NAME:
+        raise LoadError("this is no saved desk")
+    if saved[8:9] not in (b"", _FORM):
+        raise LoadError("a saved desk of an unknown form")
+    if len(saved) != _SAVED.size:
+        raise LoadError("a saved desk has %d octets, and not %d" % (_SAVED.size, len(saved)))
+    if syndrome(saved) != 0:
+        raise LoadError("the saved desk is damaged")
+    _, *words, store, _ = _SAVED.unpack(saved)
+    return words, store
+
+
+# ---------------------------------------------------------------- the desk
+
+class Desk:
+    """A reader and writer of frames under one set-up, with the record of the eight channels and their
+    store inside.
+
+    `length` is the frame length N, 13 to 2,048; `spacecraft` 0 to 1,023; `error_control` says whether
+    the last two octets of a frame are error control. A set-up outside its ranges is refused at once.
+    One thread at a time may use a desk.
+
+    >>> Desk(length=12, spacecraft=171)
+    Traceback (most recent call last):
+      ...
+    scowdeck.Refused: refusal 1: N or the spacecraft number is outside its range
+    """
+
+    def __init__(self, length, spacecraft, error_control=False):
+        self._set_up = _number(length), _number(spacecraft), 1 if error_control else 0
+        self._record = (ctypes.c_uint32 * RECORD_WORDS)()
+        self._store = (ctypes.c_uint8 * STORE_OCTETS)()
+        self._output = (ctypes.c_uint8 * OUTPUT_OCTETS)()
+        self._test()
+
+    def _call(self, frame):
+        answer = (ctypes.c_uint32 * READ_WORDS)()
+        number = library().scowdeck_read(
+            *self._set_up, self._record, RECORD_WORDS, self._store, STORE_OCTETS,
+            self._output, OUTPUT_OCTETS, frame, len(frame), answer, READ_WORDS)
+        return number, answer
+
+    def _test(self):
+        """Has the library test set-up, store, output and record: if they pass, the empty frame is
+        refused by 5, and nothing is changed either way."""
+        number, _ = self._call(b"")
+        if number != 5:
+            raise Refused(number)
+
+    def read(self, frame):
+        """Reads one frame and gives its Report, or raises Refused, and then nothing was changed.
+
+        >>> desk = Desk(length=20, spacecraft=171)
+        >>> report = desk.read(bytes.fromhex("0AB60B061FFE" + 14 * "55"))
+        >>> report.kind.name, report.channel, report.packets
+        ('IDLE', 3, ())
+        """
+        number, answer = self._call(_octets(frame))
+        if number != 0:
+            raise Refused(number)
+        (_, kind, spacecraft, channel, flagged, master_count, channel_count, secondary, synchronisation, order,
+         segment, pointer, word, gap, delivered, idle, broken, disagreement, foreign, oversize) = answer
+        return Report(Kind(kind), spacecraft, channel, master_count, channel_count, bool(secondary),
+                      bool(synchronisation), bool(order), segment, pointer, word if flagged else None, gap,
+                      self._packets(delivered), idle, broken, disagreement, foreign, oversize)
+
+    def _packets(self, delivered):
+        """The packets that stand end to end in the output; a packet's length field is its total less 7."""
+        output, packets, at = memoryview(self._output).cast("B"), [], 0
+        for _ in range(delivered):
+            total = 256 * output[at + 4] + output[at + 5] + 7
+            packets.append(bytes(output[at:at + total]))
+            at += total
+        return tuple(packets)
+
+    def write(self, channel, run, place=Place(), control_word=None):
+        """Writes one frame from a run of whole packets; gives the frame and the next Place, or raises
+        Refused. Nothing of the desk is used but its set-up.
+
+        Call on with the place that came back until its offset is the run's end. Room after the run is
+        filled with an idle packet; with nothing left to send an idle frame is written.
+
+        >>> desk, place, frames = Desk(length=64, spacecraft=5, error_control=True), Place(), []
+        >>> run = bytes.fromhex("0123C005005F") + bytes(96)
+        >>> while place.offset < len(run):
+        ...     frame, place = desk.write(1, run, place, control_word=0xCAFE)
+        ...     frames.append(frame)
+        >>> [syndrome(frame) for frame in frames], place
+        ([0, 0], Place(offset=102, left_over=5, master_count=2, channel_count=2))
+        """
+        run, output = _octets(run), (ctypes.c_uint8 * self._set_up[0])()
+        answer = (ctypes.c_uint32 * WRITE_WORDS)()
+        number = library().scowdeck_write(
+            *self._set_up, _number(channel), _bits(place.master_count, 8, "master_count"),
+            _bits(place.channel_count, 8, "channel_count"), 0 if control_word is None else 1,
+            0 if control_word is None else _bits(control_word, 32, "control_word"), run, len(run),
+            _number(place.offset), _number(place.left_over), output, len(output), answer, WRITE_WORDS)
+        if number != 0:
+            raise Refused(number)
+        return bytes(output), Place(*answer[1:])
+
+    def busy(self):
+        """Which channels have a packet under way, as a Busy."""
+        answer = (ctypes.c_uint32 * BUSY_WORDS)()
+        library().scowdeck_busy(self._record, RECORD_WORDS, answer, BUSY_WORDS)
+        return Busy(*answer)
+
+    def save(self):
+        """Record and store together, as octets to keep for `Desk.load`."""
+        return _pack(self._record, self._store)
+
+    @classmethod
+    def load(cls, saved, length, spacecraft, error_control=False):
+        """A desk that goes on where the saved one stood. Octets that are not a whole saved desk, or a
+        damaged one, are a LoadError; a record that breaks the paper's rules is Refused by 4.
+
+        >>> Desk.load(b"SCOWDECK", length=20, spacecraft=171)
+        Traceback (most recent call last):
+          ...
+        scowdeck.LoadError: a saved desk has 32907 octets, and not 8
+        """
+        words, store = _unpack(_octets(saved))
+        desk = cls(length, spacecraft, error_control)
+        desk._record[:] = words
+        ctypes.memmove(desk._store, store, STORE_OCTETS)
+        desk._test()
+        return desk
+
+    def __repr__(self):
+        return "Desk(length=%d, spacecraft=%d, error_control=%s)" % (*self._set_up[:2], bool(self._set_up[2]))
