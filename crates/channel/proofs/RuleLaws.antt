@@ -12,7 +12,7 @@ use lib.Dec.{leb}
 use lib.ListN.{length, getD, take, drop, drop-of-length-le}
 use lib.Seq.{drop-cons}
 use borrow.Author.Tests.{lt-ltb, le-ltb, le-leb, lt-leb}
-use Rattle.packet.specs.Size.{sizeOf}
+use Rattle.packet.specs.Family.{Family}
 use Rattle.packet.specs.declared.source.Size.{Size}
 use Rattle.packet.specs.declared.source.Size.the-variants.{Total}
 use Rattle.channel.specs.declared.state.Channel.{Channel}
@@ -42,53 +42,53 @@ module _ (limit k n : ℕ) {s : Size} (e : s ≡ Total n) where
   unfolding judged
   total-not-above h = rw (e, le-ltb k n h)
 
-module _ (limit : ℕ) (part : List ℕ) {s : State} where
+module _ (F : Family) (limit : ℕ) (part : List ℕ) {s : State} where
   -- fewer octets than the limit are judged by the size that they tell
-  pub gathers-below : (k : ℕ) → s ≡ Gathering k → k < limit → judged limit k (sizeOf (take k part)) ≡ stateFollows limit part s
+  pub gathers-below : (k : ℕ) → s ≡ Gathering k → k < limit → judged limit k (F .size (take k part)) ≡ stateFollows F limit part s
   unfolding stateFollows
   gathers-below k e h = rw (e, lt-ltb k limit h)
 
-  pub gathers-above : (k : ℕ) → s ≡ Gathering k → limit ≤ k → false ≡ stateFollows limit part s
+  pub gathers-above : (k : ℕ) → s ≡ Gathering k → limit ≤ k → false ≡ stateFollows F limit part s
   unfolding stateFollows
   gathers-above k e h = rw (e, le-ltb k limit h)
 
   -- 1 octet or more to skip, up to the format's most
-  pub skips-none : (r : ℕ) → s ≡ Skipping r → r < 1 → false ≡ stateFollows limit part s
+  pub skips-none : (r : ℕ) → s ≡ Skipping r → r < 1 → false ≡ stateFollows F limit part s
   unfolding stateFollows
   skips-none r e h = rw (e, lt-leb 1 r h)
 
-  pub skips-some : (r : ℕ) → s ≡ Skipping r → 1 ≤ r → leb r 65536 ≡ stateFollows limit part s
+  pub skips-some : (r : ℕ) → s ≡ Skipping r → 1 ≤ r → leb r (F .mostSkip) ≡ stateFollows F limit part s
   unfolding stateFollows
   skips-some r e h = rw (e, le-leb 1 r h)
 
 -- the channels one by one: none is left, or one more, by what the code cuts out of the store for it
-module _ (limit : ℕ) (store : List ℕ) (cs : List Channel) (v : ℕ) where
-  pub follow-end : length cs ≤ v → allFollow limit store v (drop v cs) ≡ true
+module _ (F : Family) (limit : ℕ) (store : List ℕ) (cs : List Channel) (v : ℕ) where
+  pub follow-end : length cs ≤ v → allFollow F limit store v (drop v cs) ≡ true
   unfolding allFollow
   follow-end h = rw (drop-of-length-le cs h)
 
   module _ (at : ℕ) (d : Channel) (b : Bool) (h : v < length cs) (e : at ≡ placeOf limit v)
-      (f : b ≡ channelFollows limit (take (at + limit - at) (drop at store)) (getD cs v d)) where
-    pub follow-next : b ≡ true → allFollow limit store v (drop v cs) ≡ allFollow limit store (v + 1) (drop (v + 1) cs)
+      (f : b ≡ channelFollows F limit (take (at + limit - at) (drop at store)) (getD cs v d)) where
+    pub follow-next : b ≡ true → allFollow F limit store v (drop v cs) ≡ allFollow F limit store (v + 1) (drop (v + 1) cs)
     unfolding allFollow
     follow-next t = rw (add-one v, drop-cons cs v d h, ← cut-part limit v at store e, ← f, t)
 
-    pub follow-stop : b ≡ false → allFollow limit store v (drop v cs) ≡ false
+    pub follow-stop : b ≡ false → allFollow F limit store v (drop v cs) ≡ false
     unfolding allFollow
     follow-stop t = rw (drop-cons cs v d h, ← cut-part limit v at store e, ← f, t)
 
 pub fresh-follows : Fresh-follows
 unfolding recordFollows allFollow channelFollows hunts
-fresh-follows limit store = refl
+fresh-follows F limit store = refl
 
 -- from channel number w on: all follow exactly when each does
-each-from : (limit : ℕ) (store : List ℕ) (w : ℕ) (cs : List Channel)
-    → allFollow limit store w cs ≡ true
-    ↔ ((v : ℕ) → v < length cs → channelFollows limit (partOf limit (w + v) store) (getD cs v freshChannel) ≡ true)
+each-from : (F : Family) (limit : ℕ) (store : List ℕ) (w : ℕ) (cs : List Channel)
+    → allFollow F limit store w cs ≡ true
+    ↔ ((v : ℕ) → v < length cs → channelFollows F limit (partOf limit (w + v) store) (getD cs v freshChannel) ≡ true)
 unfolding allFollow
-each-from limit store w [] = (λ e v h. absurd (omega arith), λ f. refl)
-each-from limit store w (c ∷ cs) =
-    let rest = each-from limit store (suc w) cs in (
+each-from F limit store w [] = (λ e v h. absurd (omega arith), λ f. refl)
+each-from F limit store w (c ∷ cs) =
+    let rest = each-from F limit store (suc w) cs in (
       λ e. let t = both _ _ e in elim [
         | zero ↦ λ h. rw add-zero (t .0)
         | suc v ↦ λ h. rw (add-suc w v, ← suc-add w v) (rest .0 (t .1) v (omega arith))
@@ -98,8 +98,8 @@ each-from limit store w (c ∷ cs) =
 
 pub each-follows : Each-follows
 unfolding recordFollows
-each-follows limit store rec =
-    let each = each-from limit store 0 (rec .channels) in (
+each-follows F limit store rec =
+    let each = each-from F limit store 0 (rec .channels) in (
       λ e v h. rw zero-add at (each .0 e v h),
       λ f. each .1 (λ v h. rw zero-add (f v h)),
     )

@@ -12,7 +12,7 @@ use lib.ListN.{length, take}
 use lib.Seq.{length-take-le}
 use borrow.Author.Tests.{ltb-true, leb-true, lt-ltb, le-leb}
 use Rattle.octets.specs.Pick.{pick}
-use Rattle.packet.specs.Size.{sizeOf, versionOf, totalOf}
+use Rattle.packet.specs.Size.{sizeOf, versionOf, totalOf, source}
 use Rattle.packet.specs.Theorems.{InWords as Words}
 use Rattle.packet.proofs.Laws.{size-in-words}
 use Rattle.channel.specs.declared.state.State.{State}
@@ -74,7 +74,7 @@ skipping-same : {r m : ℕ} → Skipping r ≡ Skipping m → m ≡ r
 skipping-same e = cc
 
 module _ (limit : ℕ) (part : List ℕ) (l : limit ≤ length part) where
-  gathers : (k : ℕ) → stateFollows limit part (Gathering k) ≡ true ↔ Gathers limit part k
+  gathers : (k : ℕ) → stateFollows source limit part (Gathering k) ≡ true ↔ Gathers limit part k
   unfolding stateFollows Gathers
   gathers k = (
     λ t. let u = both (ltb k limit) (judged limit k (sizeOf (take k part))) t in
@@ -84,7 +84,7 @@ module _ (limit : ℕ) (part : List ℕ) (l : limit ≤ length part) where
         and (lt-ltb k limit h) (held limit k (take k part) (length-take-le k part (omega arith)) .1 (w .1)),
   )
 
-  keeps : (s : State) → stateFollows limit part s ≡ true ↔ Keeps limit part s
+  keeps : (s : State) → stateFollows source limit part s ≡ true ↔ Keeps limit part s
   unfolding stateFollows Keeps
   keeps Hunting = (λ t. (λ k q. hunting-gathering refl q, λ r q. hunting-skipping refl q), λ w. refl)
   keeps (Gathering k) = (
@@ -120,7 +120,7 @@ rules-in-words limit part c l = go (c .heard) refl
           skipping = k .1;
         }
 
-    go : (b : Bool) → c .heard ≡ b → pick b (stateFollows limit part s) (hunts s) ≡ true ↔ InWords limit part c
+    go : (b : Bool) → c .heard ≡ b → pick b (stateFollows source limit part s) (hunts s) ≡ true ↔ InWords limit part c
     go true h = (
       λ t. words (λ f. absurd (false≢true (sym f ∙ h))) (keeps limit part l s .0 t),
       λ w. keeps limit part l s .1 (λ k e. (w .gathering k e, (w .version k e, w .total k e)), w .skipping),

@@ -1,11 +1,11 @@
--- The rules of a record (01, "A channel's record"; test 4), over the limit of a delivered packet.
+-- The rules of a record (01, "A channel's record"; test 4), over a packet family and the limit of a delivered packet.
 use mathlib.Core.Bool.{Bool, true, false, _&&_}
 use mathlib.Core.List.{List, [], _∷_}
-use Prim.Native.Nat.{ℕ, suc, _-_}
+use Prim.Native.Nat.{ℕ, suc}
 use lib.Dec.{ltb, leb}
 use lib.ListN.{take}
 use Rattle.octets.specs.Pick.{pick}
-use Rattle.packet.specs.Size.{sizeOf, formatMost}
+use Rattle.packet.specs.Family.{Family}
 use Rattle.packet.specs.declared.source.Size.{Size}
 use Rattle.packet.specs.declared.source.Size.the-variants.{Wait, Foreign, Total}
 use Rattle.channel.specs.declared.state.Channel.{Channel}
@@ -21,10 +21,10 @@ judged limit k Foreign = false
 judged limit k (Total n) = ltb k n && leb n limit
 
 -- "hunting, gathering k octets (0 to 4,095), or skipping r octets (1 to 65,536)"; "The k octets lie at the start of the channel's part"
-unfoldable pub stateFollows : ℕ → List ℕ → State → Bool
-stateFollows limit part Hunting = true
-stateFollows limit part (Gathering k) = ltb k limit && judged limit k (sizeOf (take k part))
-stateFollows limit part (Skipping r) = leb 1 r && leb r (formatMost - 6)
+unfoldable pub stateFollows : Family → ℕ → List ℕ → State → Bool
+stateFollows F limit part Hunting = true
+stateFollows F limit part (Gathering k) = ltb k limit && judged limit k (F .size (take k part))
+stateFollows F limit part (Skipping r) = leb 1 r && leb r (F .mostSkip)
 
 unfoldable pub hunts : State → Bool
 hunts Hunting = true
@@ -32,14 +32,14 @@ hunts (Gathering k) = false
 hunts (Skipping r) = false
 
 -- "Unheard means hunting."
-unfoldable pub channelFollows : ℕ → List ℕ → Channel → Bool
-channelFollows limit part c = pick (c .heard) (stateFollows limit part (c .state)) (hunts (c .state))
+unfoldable pub channelFollows : Family → ℕ → List ℕ → Channel → Bool
+channelFollows F limit part c = pick (c .heard) (stateFollows F limit part (c .state)) (hunts (c .state))
 
 -- the channels from number v on
-unfoldable pub allFollow : ℕ → List ℕ → ℕ → List Channel → Bool
-allFollow limit store v [] = true
-allFollow limit store v (c ∷ cs) = channelFollows limit (partOf limit v store) c && allFollow limit store (suc v) cs
+unfoldable pub allFollow : Family → ℕ → List ℕ → ℕ → List Channel → Bool
+allFollow F limit store v [] = true
+allFollow F limit store v (c ∷ cs) = channelFollows F limit (partOf limit v store) c && allFollow F limit store (suc v) cs
 
 -- all eight
-unfoldable pub recordFollows : ℕ → List ℕ → Record → Bool
-recordFollows limit store rec = allFollow limit store 0 (rec .channels)
+unfoldable pub recordFollows : Family → ℕ → List ℕ → Record → Bool
+recordFollows F limit store rec = allFollow F limit store 0 (rec .channels)

@@ -7,7 +7,8 @@ use mathlib.Core.Logic.{_↔_}
 use Prim.Native.Nat.{ℕ, _*_, _/_, _%_, _^_, _≤_, _<_}
 use lib.ListN.{length, getD, take}
 use Rattle.octets.specs.Pick.{pick}
-use Rattle.packet.specs.Size.{versionOf, totalOf}
+use Rattle.packet.specs.Family.{Family}
+use Rattle.packet.specs.Size.{versionOf, totalOf, source}
 use Rattle.frame.specs.Closing.{channels}
 use Rattle.channel.specs.declared.state.Channel.{Channel}
 use Rattle.channel.specs.declared.state.Record.{Record}
@@ -17,7 +18,7 @@ use Rattle.channel.specs.Rules.{channelFollows, recordFollows}
 use Rattle.channel.specs.State.{freshChannel, freshRecord}
 use Rattle.channel.specs.Store.{partOf, withPart}
 
--- a channel's rules in the paper's words
+-- a channel's rules in the paper's words, of source packets
 pub record InWords (limit : ℕ) (part : List ℕ) (c : Channel) : Type 0 where
   -- "Unheard means hunting."
   pub unheard : c .heard ≡ false → c .state ≡ Hunting
@@ -33,16 +34,16 @@ pub record InWords (limit : ℕ) (part : List ℕ) (c : Channel) : Type 0 where
 -- these rules and no more
 abbrev pub Rules-in-words : Type 0
 Rules-in-words = (limit : ℕ) (part : List ℕ) (c : Channel) → limit ≤ length part
-    → channelFollows limit part c ≡ true ↔ InWords limit part c
+    → channelFollows source limit part c ≡ true ↔ InWords limit part c
 
 -- a record keeps the rules exactly when each of its channels does
 abbrev pub Each-follows : Type 0
-Each-follows = (limit : ℕ) (store : List ℕ) (rec : Record)
-    → recordFollows limit store rec ≡ true
-    ↔ ((v : ℕ) → v < length (rec .channels) → channelFollows limit (partOf limit v store) (getD (rec .channels) v freshChannel) ≡ true)
+Each-follows = (F : Family) (limit : ℕ) (store : List ℕ) (rec : Record)
+    → recordFollows F limit store rec ≡ true
+    ↔ ((v : ℕ) → v < length (rec .channels) → channelFollows F limit (partOf limit v store) (getD (rec .channels) v freshChannel) ≡ true)
 
 abbrev pub Fresh-follows : Type 0
-Fresh-follows = (limit : ℕ) (store : List ℕ) → recordFollows limit store freshRecord ≡ true
+Fresh-follows = (F : Family) (limit : ℕ) (store : List ℕ) → recordFollows F limit store freshRecord ≡ true
 
 -- a channel's part lies inside the store: it has as many octets as the limit says
 abbrev pub Part-inside : Type 0

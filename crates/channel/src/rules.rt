@@ -9,7 +9,7 @@ ghost use mathlib.Core.Path.{_≡_};
 ghost use Prim.Native.Nat.{_*_, _≤_};
 ghost use lib.ListN.{length};
 ghost use Rattle.frame.specs.Closing.{channels};
-ghost use Rattle.packet.specs.Size.{most};
+ghost use Rattle.packet.specs.Size.{most, source};
 ghost use Rattle.channel.specs.Rules.{judged, stateFollows, channelFollows, recordFollows};
 
 // What the size that k held octets tell must be.
@@ -31,7 +31,7 @@ fn held_follows(k: usize, size: Size) -> bool
 
 fn state_follows(state: State, part: &[u8]) -> bool
     requires { ⌜ most ≤ length (now part) ⌝ }
-    ensures { λ r. ⌜ r ≡ stateFollows most (now (part .entry)) state ⌝ }
+    ensures { λ r. ⌜ r ≡ stateFollows source most (now (part .entry)) state ⌝ }
 {
     match state {
         State::Hunting => true,
@@ -54,7 +54,7 @@ fn state_follows(state: State, part: &[u8]) -> bool
 
 fn channel_follows(channel: Channel, part: &[u8]) -> bool
     requires { ⌜ most ≤ length (now part) ⌝ }
-    ensures { λ r. ⌜ r ≡ channelFollows most (now (part .entry)) channel ⌝ }
+    ensures { λ r. ⌜ r ≡ channelFollows source most (now (part .entry)) channel ⌝ }
 {
     let state = channel.state;
     if channel.heard {
@@ -71,7 +71,7 @@ fn channel_follows(channel: Channel, part: &[u8]) -> bool
 // The record keeps the rules, all eight channels (test 4).
 pub fn follows(rec: Record, store: &[u8]) -> bool
     requires { ⌜ length (now store) ≡ most * channels ⌝ }
-    ensures { λ r. ⌜ r ≡ recordFollows most (now (store .entry)) rec ⌝ }
+    ensures { λ r. ⌜ r ≡ recordFollows source most (now (store .entry)) rec ⌝ }
 {
     let mut v = 0;
     while v < Header::CHANNELS {

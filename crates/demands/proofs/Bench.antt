@@ -13,7 +13,7 @@ use Rattle.octets.proofs.Runs.{laid-nil}
 use Rattle.octets.specs.Numbers.{numberAt, bitsAt, octetsOf, packed}
 use Rattle.octets.specs.Pick.{pick}
 use Rattle.packet.specs.Chain.{wholeIn, frontOf, chainIn, chainOf, distanceIn, distanceOf}
-use Rattle.packet.specs.Size.{idleOf, sizeOf, most}
+use Rattle.packet.specs.Size.{idleOf, sizeOf, most, source}
 use Rattle.frame.specs.Closing.{row20, row25, flaggedBy, wordOctets, headerOctets, closeSize, withCheck, frameAround}
 use Rattle.frame.specs.Counts.{after, gapOf}
 use Rattle.frame.specs.Header.{headerOf}
@@ -29,7 +29,6 @@ use Rattle.channel.specs.declared.state.Channel.{Channel}
 use Rattle.channel.specs.declared.state.Record.{Record}
 use Rattle.channel.specs.declared.state.State.{State}
 use Rattle.channel.specs.declared.state.State.the-variants.{Hunting, Gathering}
-use Rattle.reader.proofs.Laws.{few-enough}
 use Rattle.reader.specs.Answers as reading
 use Rattle.reader.specs.Reading as read
 use Rattle.walk.specs.Steps.{stepsOf, carriesNone, gapFor, hunted, endedBy, courseOf, resumed, gathered, agrees, agreesBy, calledAt}
@@ -38,6 +37,7 @@ use Rattle.writer.specs.Answers as writing
 use Rattle.writer.specs.Laying.{idlePacket, leftPart, runPart, placedPart, fillerOf, leftAfter, fieldOf, leftOverAfter, pointerOf, nothingOf}
 use Rattle.writer.specs.Writing as write
 use Rattle.demands.specs.Bench.{bench, placeOf, run, frame1, frame2, frame3, written, told, values, benchOf, number, benchTable, All-hold, At-most-292, Bench}
+use Rattle.demands.proofs.FewEnough.{few-enough}
 
 -- the writings
 b1 : (w : List ℕ) → length w ≡ 20 → written (placeOf 0 9 4) run w ≡ 0 ∷ 8 ∷ 1 ∷ 10 ∷ 5 ∷ frame1
@@ -56,11 +56,11 @@ b3 w h = rw h
 pub record Passes (rec : Record) (store out : List ℕ) : Type 0 where
   pub store-fits : storeFits most (length store) ≡ true
   pub output-fits : outputFits most (length out) ≡ true
-  pub follows : recordFollows most store rec ≡ true
+  pub follows : recordFollows source most store rec ≡ true
 
 -- the first reading
 told1 : (store out : List ℕ) → Passes freshRecord store out → told freshRecord store out frame1 ≡ values 1 9 4 0 0 1 0 0
-unfolding read.answerOf read.readTable read.kindOf read.reportOf row1 fitsOf openTable row5 row6 row7 row8 row9 row10 row11 row12 secondarySize dataSize wordOf frameOf headerOf firstCause bitsAt numberAt stepsOf carriesNone gapFor gapOf hunted endedBy courseOf walkOf turns turn seenOf front cutOf sizeOf idleOf talliedAll tallied reading.valuesOf resumed
+unfolding read.answerOver read.readTableOver read.kindOf read.reportOf row1 fitsOf openTable row5 row6 row7 row8 row9 row10 row11 row12 secondarySize dataSize wordOf frameOf headerOf firstCause bitsAt numberAt stepsOf carriesNone gapFor gapOf hunted endedBy courseOf walkOf turns turn seenOf front cutOf sizeOf idleOf talliedAll tallied reading.valuesOf resumed
 told1 store out p = rw (p .store-fits, p .output-fits, p .follows)
 
 -- what it leaves: channel 3 heard, with the first six octets of a filler packet held
@@ -81,15 +81,15 @@ storeAfter store = withPart most 3 store (partAfter store)
 
 record1 : (store out : List ℕ) → Passes freshRecord store out
     → read.recordOf bench freshRecord store out frame1 ≡ recordAfter 4 (Gathering 6)
-unfolding read.recordOf read.readTable read.recordAfter row1 fitsOf openTable row5 row6 row7 row8 row9 row10 row11 row12 secondarySize dataSize wordOf frameOf headerOf firstCause bitsAt numberAt stepsOf carriesNone gapFor gapOf hunted endedBy courseOf walkOf turns turn seenOf front cutOf sizeOf idleOf talliedAll tallied resumed recordAfter channelAfter
+unfolding read.recordOver read.readTableOver read.recordAfter row1 fitsOf openTable row5 row6 row7 row8 row9 row10 row11 row12 secondarySize dataSize wordOf frameOf headerOf firstCause bitsAt numberAt stepsOf carriesNone gapFor gapOf hunted endedBy courseOf walkOf turns turn seenOf front cutOf sizeOf idleOf talliedAll tallied resumed recordAfter channelAfter
 record1 store out p = rw (p .store-fits, p .output-fits, p .follows)
 
 store1 : (store out : List ℕ) → Passes freshRecord store out → read.storeOf bench freshRecord store out frame1 ≡ storeAfter store
-unfolding read.storeOf read.readTable read.storeAfter row1 fitsOf openTable row5 row6 row7 row8 row9 row10 row11 row12 secondarySize dataSize wordOf frameOf headerOf firstCause bitsAt numberAt stepsOf carriesNone gapFor gapOf hunted endedBy courseOf walkOf turns turn seenOf front cutOf sizeOf idleOf talliedAll tallied resumed storeAfter partAfter held
+unfolding read.storeOver read.readTableOver read.storeAfter row1 fitsOf openTable row5 row6 row7 row8 row9 row10 row11 row12 secondarySize dataSize wordOf frameOf headerOf firstCause bitsAt numberAt stepsOf carriesNone gapFor gapOf hunted endedBy courseOf walkOf turns turn seenOf front cutOf sizeOf idleOf talliedAll tallied resumed storeAfter partAfter held
 store1 store out p = rw (p .store-fits, p .output-fits, p .follows)
 
 output1 : (store out : List ℕ) → Passes freshRecord store out → take 8 (read.outputOf bench freshRecord store out frame1) ≡ run
-unfolding read.outputOf read.readTable read.outputAfter row1 fitsOf openTable row5 row6 row7 row8 row9 row10 row11 row12 secondarySize dataSize wordOf frameOf headerOf firstCause bitsAt numberAt stepsOf carriesNone gapFor gapOf hunted endedBy courseOf walkOf turns turn seenOf front cutOf sizeOf idleOf talliedAll tallied handed handedAll resumed laid
+unfolding read.outputOver read.readTableOver read.outputAfter row1 fitsOf openTable row5 row6 row7 row8 row9 row10 row11 row12 secondarySize dataSize wordOf frameOf headerOf firstCause bitsAt numberAt stepsOf carriesNone gapFor gapOf hunted endedBy courseOf walkOf turns turn seenOf front cutOf sizeOf idleOf talliedAll tallied handed handedAll resumed laid
 output1 store out p = rw (p .store-fits, p .output-fits, p .follows)
 
 module _ (store : List ℕ) (h : length store ≡ most * 8) where
@@ -118,14 +118,14 @@ module _ (store : List ℕ) (h : length store ≡ most * 8) where
 
   told2 : (out : List ℕ) → outputFits most (length out) ≡ true
       → told (recordAfter 4 (Gathering 6)) (storeAfter store) out frame2 ≡ values 1 10 5 1 0 0 2 0
-  unfolding read.answerOf read.readTable read.kindOf read.reportOf row1 fitsOf openTable row5 row6 row7 row8 row9 row10 row11 row12 secondarySize dataSize wordOf frameOf headerOf firstCause bitsAt numberAt stepsOf carriesNone gapFor gapOf hunted endedBy courseOf walkOf turns turn seenOf front cutOf sizeOf idleOf talliedAll tallied reading.valuesOf resumed gathered agrees agreesBy calledAt held recordAfter channelAfter
+  unfolding read.answerOver read.readTableOver read.kindOf read.reportOf row1 fitsOf openTable row5 row6 row7 row8 row9 row10 row11 row12 secondarySize dataSize wordOf frameOf headerOf firstCause bitsAt numberAt stepsOf carriesNone gapFor gapOf hunted endedBy courseOf walkOf turns turn seenOf front cutOf sizeOf idleOf talliedAll tallied reading.valuesOf resumed gathered agrees agreesBy calledAt held recordAfter channelAfter
   told2 out o =
       let p = passes-after out o in
       rw (p .store-fits, p .output-fits, p .follows, held-there)
 
   record2 : (out : List ℕ) → outputFits most (length out) ≡ true
       → read.recordOf bench (recordAfter 4 (Gathering 6)) (storeAfter store) out frame2 ≡ recordAfter 5 (Gathering 0)
-  unfolding read.recordOf read.readTable read.recordAfter row1 fitsOf openTable row5 row6 row7 row8 row9 row10 row11 row12 secondarySize dataSize wordOf frameOf headerOf firstCause bitsAt numberAt stepsOf carriesNone gapFor gapOf hunted endedBy courseOf walkOf turns turn seenOf front cutOf sizeOf idleOf talliedAll tallied resumed gathered agrees agreesBy calledAt held recordAfter channelAfter
+  unfolding read.recordOver read.readTableOver read.recordAfter row1 fitsOf openTable row5 row6 row7 row8 row9 row10 row11 row12 secondarySize dataSize wordOf frameOf headerOf firstCause bitsAt numberAt stepsOf carriesNone gapFor gapOf hunted endedBy courseOf walkOf turns turn seenOf front cutOf sizeOf idleOf talliedAll tallied resumed gathered agrees agreesBy calledAt held recordAfter channelAfter
   record2 out o =
       let p = passes-after out o in
       rw (p .store-fits, p .output-fits, p .follows, held-there)
@@ -133,7 +133,7 @@ module _ (store : List ℕ) (h : length store ≡ most * 8) where
   store2 : (out : List ℕ) → outputFits most (length out) ≡ true
       → read.storeOf bench (recordAfter 4 (Gathering 6)) (storeAfter store) out frame2
       ≡ withPart most 3 (storeAfter store) (laid (partOf most 3 (storeAfter store)) 0 [])
-  unfolding read.storeOf read.readTable read.storeAfter row1 fitsOf openTable row5 row6 row7 row8 row9 row10 row11 row12 secondarySize dataSize wordOf frameOf headerOf firstCause bitsAt numberAt stepsOf carriesNone gapFor gapOf hunted endedBy courseOf walkOf turns turn seenOf front cutOf sizeOf idleOf talliedAll tallied resumed gathered agrees agreesBy calledAt held recordAfter channelAfter
+  unfolding read.storeOver read.readTableOver read.storeAfter row1 fitsOf openTable row5 row6 row7 row8 row9 row10 row11 row12 secondarySize dataSize wordOf frameOf headerOf firstCause bitsAt numberAt stepsOf carriesNone gapFor gapOf hunted endedBy courseOf walkOf turns turn seenOf front cutOf sizeOf idleOf talliedAll tallied resumed gathered agrees agreesBy calledAt held recordAfter channelAfter
   store2 out o =
       let p = passes-after out o in
       rw (p .store-fits, p .output-fits, p .follows, held-there)
@@ -148,24 +148,24 @@ module _ (store : List ℕ) (h : length store ≡ most * 8) where
 
   -- the third reading, with B2 and without
   told3 : (out : List ℕ) → outputFits most (length out) ≡ true → told (recordAfter 4 (Gathering 6)) (storeAfter store) out frame3 ≡ values 2 11 6 2046 1 0 0 1
-  unfolding read.answerOf read.readTable read.kindOf read.reportOf row1 fitsOf openTable row5 row6 row7 row8 row9 row10 row11 row12 secondarySize dataSize wordOf frameOf headerOf firstCause bitsAt numberAt stepsOf carriesNone gapFor gapOf hunted endedBy courseOf walkOf turns turn seenOf front cutOf sizeOf idleOf talliedAll tallied reading.valuesOf resumed recordAfter channelAfter busyState
+  unfolding read.answerOver read.readTableOver read.kindOf read.reportOf row1 fitsOf openTable row5 row6 row7 row8 row9 row10 row11 row12 secondarySize dataSize wordOf frameOf headerOf firstCause bitsAt numberAt stepsOf carriesNone gapFor gapOf hunted endedBy courseOf walkOf turns turn seenOf front cutOf sizeOf idleOf talliedAll tallied reading.valuesOf resumed recordAfter channelAfter busyState
   told3 out o =
       let p = passes-after out o in
       rw (p .store-fits, p .output-fits, p .follows)
 
 told3-behind : (store out : List ℕ) → length store ≡ most * 8 → outputFits most (length out) ≡ true
     → told (recordAfter 5 (Gathering 0)) store out frame3 ≡ values 2 11 6 2046 0 0 0 0
-unfolding read.answerOf read.readTable read.kindOf read.reportOf row1 fitsOf openTable row5 row6 row7 row8 row9 row10 row11 row12 secondarySize dataSize wordOf frameOf headerOf firstCause bitsAt numberAt stepsOf carriesNone gapFor gapOf hunted endedBy courseOf walkOf turns turn seenOf front cutOf sizeOf idleOf talliedAll tallied reading.valuesOf resumed recordAfter channelAfter busyState storeFits recordFollows allFollow channelFollows stateFollows hunts judged
+unfolding read.answerOver read.readTableOver read.kindOf read.reportOf row1 fitsOf openTable row5 row6 row7 row8 row9 row10 row11 row12 secondarySize dataSize wordOf frameOf headerOf firstCause bitsAt numberAt stepsOf carriesNone gapFor gapOf hunted endedBy courseOf walkOf turns turn seenOf front cutOf sizeOf idleOf talliedAll tallied reading.valuesOf resumed recordAfter channelAfter busyState storeFits recordFollows allFollow channelFollows stateFollows hunts judged
 told3-behind store out h o = rw (h, o)
 
 -- B6 and B7
 pointed : (store out : List ℕ) → Passes freshRecord store out
     → (number bench freshRecord store out (set frame1 5 14) ≡ 12 ∷ []) × (number bench freshRecord store out (set frame1 5 13) ≡ 0 ∷ [])
-unfolding read.answerOf read.readTable read.kindOf read.reportOf row1 fitsOf openTable row5 row6 row7 row8 row9 row10 row11 row12 secondarySize dataSize wordOf frameOf headerOf firstCause bitsAt numberAt stepsOf carriesNone gapFor gapOf hunted endedBy courseOf walkOf turns turn seenOf front cutOf sizeOf idleOf talliedAll tallied reading.valuesOf resumed
+unfolding read.answerOver read.readTableOver read.kindOf read.reportOf row1 fitsOf openTable row5 row6 row7 row8 row9 row10 row11 row12 secondarySize dataSize wordOf frameOf headerOf firstCause bitsAt numberAt stepsOf carriesNone gapFor gapOf hunted endedBy courseOf walkOf turns turn seenOf front cutOf sizeOf idleOf talliedAll tallied reading.valuesOf resumed
 pointed store out p = (rw (p .store-fits, p .output-fits, p .follows), rw (p .store-fits, p .output-fits, p .follows))
 
 outside : (store out f : List ℕ) → (number (benchOf 12) freshRecord store out f ≡ 1 ∷ []) × (number (benchOf 2049) freshRecord store out f ≡ 1 ∷ [])
-unfolding read.answerOf read.readTable read.kindOf read.reportOf row1 fitsOf openTable row5 row6 row7 row8 row9 row10 row11 row12 secondarySize dataSize wordOf frameOf headerOf firstCause bitsAt numberAt stepsOf carriesNone gapFor gapOf hunted endedBy courseOf walkOf turns turn seenOf front cutOf sizeOf idleOf talliedAll tallied reading.valuesOf resumed
+unfolding read.answerOver read.readTableOver read.kindOf read.reportOf row1 fitsOf openTable row5 row6 row7 row8 row9 row10 row11 row12 secondarySize dataSize wordOf frameOf headerOf firstCause bitsAt numberAt stepsOf carriesNone gapFor gapOf hunted endedBy courseOf walkOf turns turn seenOf front cutOf sizeOf idleOf talliedAll tallied reading.valuesOf resumed
 outside store out f = (refl, refl)
 
 b5 : gapOf 1 254 ∷ [] ≡ 2 ∷ []
@@ -179,7 +179,7 @@ output-passes out h = le-leb 6144 (length out) h
 fresh-passes : (store out : List ℕ) → length store ≡ 32768 → 6144 ≤ length out → Passes freshRecord store out
 unfolding storeFits
 fresh-passes store out h o =
-    record { store-fits = rw h; output-fits = output-passes out o; follows = fresh-follows most store }
+    record { store-fits = rw h; output-fits = output-passes out o; follows = fresh-follows source most store }
 
 table : (store out₁ out₂ out₃ w f : List ℕ) → length store ≡ 32768 → 6144 ≤ length out₁ → 6144 ≤ length out₂ → 6144 ≤ length out₃
     → length w ≡ 20 → All-hold (benchTable store out₁ out₂ out₃ w f)

@@ -1,5 +1,6 @@
 -- Demand 1, from the theorems of the crates.
 -- Assumes nothing.
+use Rattle.packet.specs.Size.{most, source}
 use Rattle.frame.proofs.Laws as frame
 use Rattle.reader.proofs.Laws as reader
 use Rattle.writer.proofs.Laws as writer
@@ -8,10 +9,10 @@ use Rattle.demands.specs.Demand1.{Demand1}
 pub demand1 : Demand1
 demand1 =
     record {
-      reading-numbers = reader.number-exactly;
-      reading-accepts = reader.accepted-exactly;
-      reading-untouched = reader.refused-untouched;
-      reading-zero = reader.refused-zero;
+      reading-numbers = reader.number-exactly source most;
+      reading-accepts = reader.accepted-exactly source most;
+      reading-untouched = reader.refused-untouched source most;
+      reading-zero = reader.refused-zero source most;
       writing-numbers = writer.number-exactly;
       writing-accepts = writer.written-exactly;
       writing-untouched = writer.refused-untouched;

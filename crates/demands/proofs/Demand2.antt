@@ -8,25 +8,28 @@ use mathlib.Core.Logic.{_⊎_, inl, inr}
 use Prim.Native.Nat.{ℕ, suc, _+_, _-_, _*_, _≤_, _<_}
 use native.Mathlib.Omega.{arith}
 use lib.ListN.{length, drop, getD-replicate}
-use Rattle.packet.specs.Size.{most}
-use Rattle.packet.specs.Theorems.{AllWhole, endToEnd}
+use Rattle.packet.specs.Family.{Octets, AllWhole}
+use Rattle.packet.specs.Size.{most, source}
+use Rattle.packet.specs.Theorems.{endToEnd}
+use Rattle.packet.proofs.Laws.{source-lawful}
 use Rattle.packet.proofs.ChainLaws.{chain-exactly}
+use Rattle.walk.specs.Theorems.{Sound}
 use Rattle.frame.specs.SetUp.{fitsOf}
 use Rattle.frame.specs.declared.set_up.SetUp.{SetUp}
 use Rattle.channel.specs.State.{freshChannel, freshRecord}
 use Rattle.channel.specs.declared.state.Channel.{Channel}
 use Rattle.channel.specs.declared.state.Record.{Record}
 use Rattle.channel.proofs.Laws.{fresh-follows}
-use Rattle.reader.specs.Reading.{recordOf, storeOf}
+use Rattle.reader.specs.Reading.{recordOver, storeOver}
 use Rattle.writer.specs.Laying.{shortIdle}
 use Rattle.writer.specs.declared.writing.Place.{Place}
 use Rattle.writer.proofs.WritingSteps.{border-passes}
-use Rattle.demands.specs.Demand2.{Writing, Demand2, ReadsBack, Fair, Roomy, frames, fillers, placeAfter, dueInAll, fitting}
+use Rattle.demands.specs.Demand2.{Writing, Demand2-general, Demand2, ReadsBack, Fair, Roomy, frames, fillers, placeAfter, dueInAll, fitting}
 use Rattle.demands.specs.History.{Allowed, wanted}
 use Rattle.demands.specs.History.Event.{arrives}
-use Rattle.demands.specs.Sender.{Octets, Sends, streamOf}
+use Rattle.demands.specs.Sender.{Sends, streamOf}
 use Rattle.demands.proofs.AllOut.{total, all-due, none-due}
-use Rattle.demands.proofs.Demand3.{demand3-fresh}
+use Rattle.demands.proofs.Demand3.{demand3-general, from-fresh, source-sound}
 use Rattle.demands.proofs.Fillers.{whole-append}
 use Rattle.demands.proofs.Frame.{none-there}
 use Rattle.demands.proofs.Hears.Reads.{unheard}
@@ -45,14 +48,14 @@ unfolding frames
 as-many u v run [] p = refl
 as-many u v run (c ∷ cs) p = ap suc (as-many u v run cs _)
 
-all-arrive : (u : SetUp) (v : ℕ) (fs outs : List (List ℕ)) (rec : Record) (store : List ℕ) (heard : Bool) → length outs ≡ length fs → Roomy outs
-    → Allowed u v rec store heard 0 fs (map arrives outs)
-all-arrive u v fs [] rec store heard e r = tt
-all-arrive u v [] (o ∷ os) rec store heard e r = absurd (omega arith)
-all-arrive u v (f ∷ fs) (o ∷ os) rec store heard e r =
-    (r .0, (λ z. omega arith), all-arrive u v fs os (recordOf u rec store o f) (storeOf u rec store o f) true (omega arith) (r .1))
+all-arrive : (limit : ℕ) (u : SetUp) (v : ℕ) (fs outs : List (List ℕ)) (rec : Record) (store : List ℕ) (heard : Bool) → length outs ≡ length fs → Roomy limit outs
+    → Allowed source limit u v rec store heard 0 fs (map arrives outs)
+all-arrive limit u v fs [] rec store heard e r = tt
+all-arrive limit u v [] (o ∷ os) rec store heard e r = absurd (omega arith)
+all-arrive limit u v (f ∷ fs) (o ∷ os) rec store heard e r =
+    (r .0, (λ z. omega arith), all-arrive limit u v fs os (recordOver source limit u rec store o f) (storeOver source limit u rec store o f) true (omega arith) (r .1))
 
-module _ (u : SetUp) (v : ℕ) (ps : List (List ℕ)) (p : Place) (cs : List Writing) (fits : fitsOf u ≡ true) (channel : v < 8) (w : AllWhole ps)
+module _ (limit : ℕ) (G : Sound source limit) (u : SetUp) (v : ℕ) (ps : List (List ℕ)) (p : Place) (cs : List Writing) (fits : fitsOf u ≡ true) (channel : v < 8) (w : AllWhole source ps)
     (real : Octets (endToEnd ps)) (short : length (endToEnd ps) ≤ 65536) (start : p .offset ≡ 0) (few : p .«left_over» ≤ 6)
     (master : p .master .0 < 256) (count : p .count .0 < 256) (fair : Fair u cs) where
   writes : Writes u v (endToEnd ps) p
@@ -68,7 +71,7 @@ module _ (u : SetUp) (v : ℕ) (ps : List (List ℕ)) (p : Place) (cs : List Wri
         counted = count;
       }
 
-  whole-all : AllWhole (ps ++ fillers u v (endToEnd ps) p cs)
+  whole-all : AllWhole source (ps ++ fillers u v (endToEnd ps) p cs)
   whole-all = whole-append ps (fillers u v (endToEnd ps) p cs) w (fillers-whole u v (endToEnd ps) fits cs p)
 
   frames-sent : Sends u v (p .count .0) (streamOf (drop (7 - p .«left_over») shortIdle) (ps ++ fillers u v (endToEnd ps) p cs))
@@ -82,17 +85,17 @@ module _ (u : SetUp) (v : ℕ) (ps : List (List ℕ)) (p : Place) (cs : List Wri
   all-out-by : placeAfter u v (endToEnd ps) p cs .offset ≡ length (endToEnd ps)
       → (placeAfter u v (endToEnd ps) p cs .offset ≡ p .offset)
       ⊎ (p .«left_over» + placeAfter u v (endToEnd ps) p cs .offset ≤ total u (frames u v (endToEnd ps) p cs) + p .offset)
-      → dueInAll u (drop (7 - p .«left_over») shortIdle) (ps ++ fillers u v (endToEnd ps) p cs) [] (frames u v (endToEnd ps) p cs)
-      ≡ wanted (fitting ps)
+      → dueInAll source limit u (drop (7 - p .«left_over») shortIdle) (ps ++ fillers u v (endToEnd ps) p cs) [] (frames u v (endToEnd ps) p cs)
+      ≡ wanted source (fitting limit ps)
   all-out-by e (inl z) =
-      none-due u (drop (7 - p .«left_over») shortIdle) ps (fillers u v (endToEnd ps) p cs) (frames u v (endToEnd ps) p cs) whole-all
-      (fillers-idle u v (endToEnd ps) cs p) (none-there ps w (omega arith))
+      none-due limit u (drop (7 - p .«left_over») shortIdle) ps (fillers u v (endToEnd ps) p cs) (frames u v (endToEnd ps) p cs) whole-all
+      (fillers-idle u v (endToEnd ps) cs p) (none-there source source-lawful ps w (omega arith))
   all-out-by e (inr z) =
-      all-due u (drop (7 - p .«left_over») shortIdle) ps (fillers u v (endToEnd ps) p cs) (frames u v (endToEnd ps) p cs) whole-all
+      all-due limit u (drop (7 - p .«left_over») shortIdle) ps (fillers u v (endToEnd ps) p cs) (frames u v (endToEnd ps) p cs) whole-all
       (fillers-idle u v (endToEnd ps) cs p) w (omega (arith, length-tail (p .«left_over») few))
 
-  module _ (store : List ℕ) (whole : length store ≡ most * 8) (octets : Octets store) where
-    starts : Kept u v (drop (7 - p .«left_over») shortIdle) (ps ++ fillers u v (endToEnd ps) p cs) freshRecord store false 0 []
+  module _ (store : List ℕ) (whole : length store ≡ limit * 8) (octets : Octets store) where
+    starts : Kept source limit u v (drop (7 - p .«left_over») shortIdle) (ps ++ fillers u v (endToEnd ps) p cs) freshRecord store false 0 []
         (frames u v (endToEnd ps) p cs)
     unfolding streamOf
     starts =
@@ -103,23 +106,27 @@ module _ (u : SetUp) (v : ℕ) (ps : List (List ℕ)) (p : Place) (cs : List Wri
           behind = ps ++ fillers u v (endToEnd ps) p cs;
           sends = frames-sent;
           rest-is = refl;
-          fine = record { eight = refl; store-whole = whole; octets = octets; follows = fresh-follows most store };
+          fine = record { eight = refl; store-whole = whole; octets = octets; follows = fresh-follows source limit store };
           reads = unheard (ap (λ (c : Channel). c .heard) (getD-replicate 8 v freshChannel freshChannel channel)) refl
               (lost-free (record { done = []; split = refl; place = omega arith; over = inl refl }));
         }
 
-    back : (outs : List (List ℕ)) → length outs ≡ length cs → Roomy outs → ReadsBack u v ps p cs store outs
+    back : (outs : List (List ℕ)) → length outs ≡ length cs → Roomy limit outs → ReadsBack limit u v ps p cs store outs
     back outs many roomy =
         record {
           written = none-refused cs p writes fair;
           gets-there = λ h. gets-there cs p writes fair (omega arith);
-          read-back = demand3-fresh u v (p .count .0) (drop (7 - p .«left_over») shortIdle) (ps ++ fillers u v (endToEnd ps) p cs)
+          read-back = from-fresh source limit (demand3-general source limit G) u v (p .count .0) (drop (7 - p .«left_over») shortIdle) (ps ++ fillers u v (endToEnd ps) p cs)
               (frames u v (endToEnd ps) p cs) store (map arrives outs) whole-all frames-sent channel whole octets
-              (all-arrive u v (frames u v (endToEnd ps) p cs) outs freshRecord store false (many ∙ sym (as-many u v (endToEnd ps) cs p)) roomy);
-          smooth = smooth whole-all (frames u v (endToEnd ps) p cs) outs freshRecord store false [] starts roomy;
+              (all-arrive limit u v (frames u v (endToEnd ps) p cs) outs freshRecord store false (many ∙ sym (as-many u v (endToEnd ps) cs p)) roomy);
+          smooth = smooth G whole-all (frames u v (endToEnd ps) p cs) outs freshRecord store false [] starts roomy;
           all-out = λ e. all-out-by e (carries-all real cs p writes fair);
         }
 
+-- for every limit that is wide enough
+pub demand2-general : Demand2-general
+demand2-general limit G u v ps p cs store outs fits channel w real short start few master count fair whole octets many roomy =
+    back limit G u v ps p cs fits channel w real short start few master count fair store whole octets outs many roomy
+
 pub demand2 : Demand2
-demand2 u v ps p cs store outs fits channel w real short start few master count fair whole octets many roomy =
-    back u v ps p cs fits channel w real short start few master count fair store whole octets outs many roomy
+demand2 = demand2-general most source-sound

@@ -7,15 +7,17 @@ use mathlib.Core.Logic.{inl}
 use Prim.Native.Nat.{ℕ, _+_, _<_}
 use native.Mathlib.Omega.{arith}
 use lib.ListN.{replicate, getD-replicate}
-use Rattle.packet.specs.Size.{most}
-use Rattle.packet.specs.Theorems.{AllWhole}
+use Rattle.packet.specs.Family.{Family, AllWhole}
+use Rattle.packet.specs.Size.{most, source}
+use Rattle.packet.proofs.Laws.{source-lawful}
+use Rattle.walk.specs.Theorems.{Sound}
 use Rattle.frame.specs.declared.set_up.SetUp.{SetUp}
 use Rattle.channel.specs.State.{freshChannel, freshRecord}
 use Rattle.channel.specs.declared.state.Channel.{Channel}
 use Rattle.channel.specs.declared.state.Record.{Record}
 use Rattle.channel.proofs.Laws.{fresh-follows}
-use Rattle.reader.specs.Reading.{recordOf, storeOf}
-use Rattle.demands.specs.Demand3.{Demand3, Demand3-fresh}
+use Rattle.reader.specs.Reading.{recordOver, storeOver}
+use Rattle.demands.specs.Demand3.{Demand3Over, Demand3-general, Demand3, Demand3-freshOver, Demand3-fresh}
 use Rattle.demands.specs.History.{Event, Allowed, Delivers, carried}
 use Rattle.demands.specs.History.Event.{lost, arrives, other}
 use Rattle.demands.specs.Sender.{streamOf}
@@ -23,30 +25,31 @@ use Rattle.demands.proofs.Hears.Reads.{unheard}
 use Rattle.demands.proofs.History.{Kept, after-lost, arrival-calls, arrival-keeps, other-keeps, refused-keeps}
 use Rattle.demands.proofs.Spot.Lost.{lost-free}
 
-module _ (u : SetUp) (v : ℕ) (tail : List ℕ) (ps : List (List ℕ)) (w : AllWhole ps) (h : v < 8) where
+module _ {F : Family} {limit : ℕ} (G : Sound F limit) (u : SetUp) (v : ℕ) (tail : List ℕ) (ps : List (List ℕ)) (w : AllWhole F ps) (h : v < 8) where
   along : (es : List Event) (fs : List (List ℕ)) (rec : Record) (store : List ℕ) (heard : Bool) (missing : ℕ) (came : List Bool)
-      → Kept u v tail ps rec store heard missing came fs → Allowed u v rec store heard missing fs es
-      → Delivers u tail ps rec store came fs es
+      → Kept F limit u v tail ps rec store heard missing came fs → Allowed F limit u v rec store heard missing fs es
+      → Delivers F limit u tail ps rec store came fs es
   along [] fs rec store heard missing came k a = tt
   along (lost ∷ es) [] rec store heard missing came k a = tt
   along (lost ∷ es) (f ∷ fs) rec store heard missing came k a =
-      along es fs rec store heard (missing + 1) (came ++ replicate (carried u f) false) (after-lost w k) a
+      along es fs rec store heard (missing + 1) (came ++ replicate (carried u f) false) (after-lost G w k) a
   along (arrives out ∷ es) [] rec store heard missing came k a = tt
   along (arrives out ∷ es) (f ∷ fs) rec store heard missing came k a = (
-    arrival-calls w k (a .1) out (a .0),
-    along es fs (recordOf u rec store out f) (storeOf u rec store out f) true 0 (came ++ replicate (carried u f) true)
-        (arrival-keeps w k (a .1) out (a .0)) (a .2),
+    arrival-calls G w k (a .1) out (a .0),
+    along es fs (recordOver F limit u rec store out f) (storeOver F limit u rec store out f) true 0 (came ++ replicate (carried u f) true)
+        (arrival-keeps G w k (a .1) out (a .0)) (a .2),
   )
   along (other u′ true s out f ∷ es) fs rec store heard missing came k a =
-      along es fs (recordOf u′ rec store out f) (storeOf u′ rec store out f) heard missing came
-      (other-keeps k u′ out f h (a .0) (a .1)) (a .2)
+      along es fs (recordOver F limit u′ rec store out f) (storeOver F limit u′ rec store out f) heard missing came
+      (other-keeps G k u′ out f h (a .0) (a .1)) (a .2)
   along (other u′ false s out f ∷ es) fs rec store heard missing came k a =
-      along es fs (recordOf u′ rec s out f) store heard missing came (refused-keeps k u′ s out f (a .0)) (a .1)
+      along es fs (recordOver F limit u′ rec s out f) store heard missing came (refused-keeps G k u′ s out f (a .0)) (a .1)
 
-pub demand3 : Demand3
+-- for every family that keeps the laws of one, and every limit that is wide enough
+pub demand3-general : Demand3-general
 unfolding streamOf
-demand3 u v count tail ps fs rec store es w s h eight whole octets follows fresh a =
-    along u v tail ps w h es fs rec store false 0 []
+demand3-general F limit G u v count tail ps fs rec store es w s h eight whole octets follows fresh a =
+    along G u v tail ps w h es fs rec store false 0 []
     (record {
       count = count;
       rest = streamOf tail ps;
@@ -59,7 +62,17 @@ demand3 u v count tail ps fs rec store es w s h eight whole octets follows fresh
     })
     a
 
-pub demand3-fresh : Demand3-fresh
-demand3-fresh u v count tail ps fs store es w s h whole octets a =
-    demand3 u v count tail ps fs freshRecord store es w s h refl whole octets (fresh-follows most store)
+pub from-fresh : (F : Family) (limit : ℕ) → Demand3Over F limit → Demand3-freshOver F limit
+from-fresh F limit d u v count tail ps fs store es w s h whole octets a =
+    d u v count tail ps fs freshRecord store es w s h refl whole octets (fresh-follows F limit store)
     (ap (λ (c : Channel). c .heard) (getD-replicate 8 v freshChannel freshChannel h)) a
+
+-- the one instance: source packets of up to 4,096 octets
+pub source-sound : Sound source most
+source-sound = record { laws = source-lawful; wide = omega arith }
+
+pub demand3 : Demand3
+demand3 = demand3-general source most source-sound
+
+pub demand3-fresh : Demand3-fresh
+demand3-fresh = from-fresh source most demand3

@@ -11,10 +11,10 @@ use borrow.Author.Tests.{leb-true}
 use Rattle.octets.specs.Numbers.{bitsAt, numberAt, octetsOf}
 use Rattle.octets.specs.Pick.{pick}
 use Rattle.octets.proofs.Runs.{length-octets}
-use Rattle.packet.specs.Size.{sizeOf, totalOf, idleOf}
-use Rattle.packet.specs.Theorems.{Whole, AllWhole}
-use Rattle.packet.specs.declared.source.Size.the-variants.{Total}
+use Rattle.packet.specs.Family.{Whole, AllWhole}
+use Rattle.packet.specs.Size.{sizeOf, totalOf, idleOf, source}
 use Rattle.packet.proofs.Laws.{size-in-words}
+use Rattle.packet.specs.declared.source.Size.the-variants.{Total}
 use Rattle.writer.specs.Laying.{idlePacket, shortIdle}
 use Rattle.demands.specs.Demand2.{fillerFor}
 
@@ -27,7 +27,7 @@ pub idle-append : (a b : List (List ℕ)) → AllIdle a → AllIdle b → AllIdl
 idle-append [] b i j = j
 idle-append (p ∷ a) b i j = (i .0, idle-append a b (i .1) j)
 
-pub whole-append : (a b : List (List ℕ)) → AllWhole a → AllWhole b → AllWhole (a ++ b)
+pub whole-append : (a b : List (List ℕ)) → AllWhole source a → AllWhole source b → AllWhole source (a ++ b)
 whole-append [] b v w = w
 whole-append (p ∷ a) b v w = (v .0, whole-append a b (v .1) w)
 
@@ -44,7 +44,7 @@ idle-total : (n : ℕ) → 7 ≤ n → n ≤ 2042 → totalOf (idlePacket n) ≡
 unfolding idlePacket octetsOf numberAt
 idle-total n h i = omega arith
 
-pub idle-whole : (n : ℕ) → 7 ≤ n → n ≤ 2042 → Whole (idlePacket n)
+pub idle-whole : (n : ℕ) → 7 ≤ n → n ≤ 2042 → Whole source (idlePacket n)
 idle-whole n h i =
     let l = length-idle n h in
     size-in-words (idlePacket n) .six (omega arith) (idle-version n) ∙ ap Total (idle-total n h i ∙ sym l)
@@ -53,7 +53,7 @@ pub idle-idle : (n : ℕ) → idleOf (idlePacket n) ≡ true
 unfolding idlePacket octetsOf bitsAt numberAt idleOf
 idle-idle n = refl
 
-pub short-whole : Whole shortIdle
+pub short-whole : Whole source shortIdle
 unfolding sizeOf bitsAt numberAt
 short-whole = refl
 
@@ -62,11 +62,11 @@ unfolding idleOf bitsAt numberAt
 short-idle = refl
 
 -- the filler that a call begins
-pub filler-whole : (placed room : ℕ) → room ≤ 2042 → AllWhole (fillerFor placed room)
+pub filler-whole : (placed room : ℕ) → room ≤ 2042 → AllWhole source (fillerFor placed room)
 unfolding fillerFor
 filler-whole placed room h = go (eqb placed 0) (eqb room 0) (leb 7 room) refl
   where
-    go : (a b c : Bool) → leb 7 room ≡ c → AllWhole (pick a [] (pick b [] (pick c (idlePacket room ∷ []) (shortIdle ∷ []))))
+    go : (a b c : Bool) → leb 7 room ≡ c → AllWhole source (pick a [] (pick b [] (pick c (idlePacket room ∷ []) (shortIdle ∷ []))))
     go true b c e = tt
     go false true c e = tt
     go false false true e = (idle-whole room (leb-true 7 room e) h, tt)

@@ -10,8 +10,8 @@ use lib.Dec.{eqb}
 use lib.ListN.{length}
 use borrow.Author.Tests.{eq-eqb, ne-eqb}
 use Rattle.octets.specs.Pick.{pick}
-use Rattle.packet.specs.Size.{most}
-use Rattle.packet.specs.Theorems.{AllWhole}
+use Rattle.packet.specs.Family.{Family, AllWhole}
+use Rattle.walk.specs.Theorems.{Sound}
 use Rattle.frame.specs.Opening.{idleData}
 use Rattle.frame.specs.declared.header.Header.{Header}
 use Rattle.frame.proofs.Laws.{gap-exactly}
@@ -31,23 +31,23 @@ use Rattle.demands.proofs.Spot.{Lost}
 
 -- no frame of the sender arrived yet; or `missing` frames were lost since the last one; or none was, and the reader stands where the sender
 -- does. `count` is that of the next frame
-pub data Reads (c : Channel) (part tail : List ℕ) (ps : List (List ℕ)) (came : List Bool) (q : List ℕ) (behind : List (List ℕ)) (heard : Bool)
+pub data Reads (F : Family) (limit : ℕ) (c : Channel) (part tail : List ℕ) (ps : List (List ℕ)) (came : List Bool) (q : List ℕ) (behind : List (List ℕ)) (heard : Bool)
     (missing count : ℕ) : Type 0 where
-  unheard : c .heard ≡ false → heard ≡ false → Lost tail ps came q behind → Reads c part tail ps came q behind heard missing count
+  unheard : c .heard ≡ false → heard ≡ false → Lost tail ps came q behind → Reads F limit c part tail ps came q behind heard missing count
   stale : c .heard ≡ true → heard ≡ true → c .last .0 < 256 → (c .last .0 + missing + 1) % 256 ≡ count → 1 ≤ missing
-      → Lost tail ps came q behind → Reads c part tail ps came q behind heard missing count
+      → Lost tail ps came q behind → Reads F limit c part tail ps came q behind heard missing count
   live : c .heard ≡ true → heard ≡ true → c .last .0 < 256 → (c .last .0 + missing + 1) % 256 ≡ count → missing ≡ 0
-      → Stand (c .state) part tail ps came q behind → Reads c part tail ps came q behind heard missing count
+      → Stand F limit (c .state) part tail ps came q behind → Reads F limit c part tail ps came q behind heard missing count
 
-pub reads-any : {c : Channel} {part tail : List ℕ} {ps : List (List ℕ)} {came : List Bool} {q : List ℕ} {behind : List (List ℕ)} {heard : Bool}
-    {missing count : ℕ} → Reads c part tail ps came q behind heard missing count → Any tail ps came q behind
+pub reads-any : {F : Family} {limit : ℕ} {c : Channel} {part tail : List ℕ} {ps : List (List ℕ)} {came : List Bool} {q : List ℕ} {behind : List (List ℕ)} {heard : Bool}
+    {missing count : ℕ} → Reads F limit c part tail ps came q behind heard missing count → Any tail ps came q behind
 reads-any (unheard a b l) = any-lost l
 reads-any (stale a b h e m l) = any-lost l
 reads-any (live a b h e m s) = any-stand s
 
 -- steps 1 and 2
-module _ (part field : List ℕ) (h : Header) (c : Channel) (s : h .synchronisation ≡ false) where
-  pub steps-idle : h .pointer ≡ idleData → stepsOf most part field h c ≡ broke (c .state) (only Hunting)
+module _ (F : Family) (limit : ℕ) (part field : List ℕ) (h : Header) (c : Channel) (s : h .synchronisation ≡ false) where
+  pub steps-idle : h .pointer ≡ idleData → stepsOf F limit part field h c ≡ broke (c .state) (only Hunting)
   unfolding stepsOf carriesNone
   steps-idle e = rw (s, eq-eqb (h .pointer) idleData e)
 
@@ -56,18 +56,18 @@ module _ (part field : List ℕ) (h : Header) (c : Channel) (s : h .synchronisat
   carries n = rw (s, ne-eqb (h .pointer) idleData n)
 
   steps-by : (b : Bool) → carriesNone h ≡ false → eqb (gapFor c h) 0 ≡ b
-      → stepsOf most part field h c
-      ≡ pick (not b) (broke (c .state) (hunted most field (h .pointer))) (resumed most part field (h .pointer) (c .state))
+      → stepsOf F limit part field h c
+      ≡ pick (not b) (broke (c .state) (hunted F limit field (h .pointer))) (resumed F limit part field (h .pointer) (c .state))
   unfolding stepsOf
   steps-by b n g =
       ap₂ (λ (x y : Bool). pick x (broke (c .state) (only Hunting))
-      (pick (not y) (broke (c .state) (hunted most field (h .pointer))) (resumed most part field (h .pointer) (c .state)))) n g
+      (pick (not y) (broke (c .state) (hunted F limit field (h .pointer))) (resumed F limit part field (h .pointer) (c .state)))) n g
 
-  pub steps-on : (h .pointer ≡ idleData → ⊥) → gapFor c h ≡ 0 → stepsOf most part field h c ≡ resumed most part field (h .pointer) (c .state)
+  pub steps-on : (h .pointer ≡ idleData → ⊥) → gapFor c h ≡ 0 → stepsOf F limit part field h c ≡ resumed F limit part field (h .pointer) (c .state)
   steps-on n g = steps-by true (carries n) (eq-eqb (gapFor c h) 0 g)
 
   steps-gap : (h .pointer ≡ idleData → ⊥) → (gapFor c h ≡ 0 → ⊥)
-      → stepsOf most part field h c ≡ broke (c .state) (hunted most field (h .pointer))
+      → stepsOf F limit part field h c ≡ broke (c .state) (hunted F limit field (h .pointer))
   steps-gap n g = steps-by false (carries n) (ne-eqb (gapFor c h) 0 g)
 
 pub gap-unheard : (c : Channel) (h : Header) → c .heard ≡ false → gapFor c h ≡ 0
@@ -80,9 +80,9 @@ pub gap-heard : (c : Channel) (h : Header) (missing : ℕ) → c .heard ≡ true
 unfolding gapFor
 gap-heard c h missing e l k m g = rw e (sym (gap-exactly (h .count .0) (c .last .0) missing k l (omega arith) .1 g))
 
-pub unheard-hunts : (part : List ℕ) (c : Channel) → channelFollows most part c ≡ true → c .heard ≡ false → c .state ≡ Hunting
+pub unheard-hunts : (F : Family) (limit : ℕ) (part : List ℕ) (c : Channel) → channelFollows F limit part c ≡ true → c .heard ≡ false → c .state ≡ Hunting
 unfolding channelFollows hunts
-unheard-hunts part c f e = go (c .state) (rw e at f)
+unheard-hunts F limit part c f e = go (c .state) (rw e at f)
   where
     go : (s : State) → hunts s ≡ true → s ≡ Hunting
     go Hunting h = refl
@@ -96,29 +96,29 @@ not-idle D e pointer few points z = go (decLt e D)
     go (yes l) = omega (arith, called-below D e l)
     go (no l) = omega (arith, called-beyond D e (omega arith))
 
-module _ {c : Channel} {part tail : List ℕ} {ps : List (List ℕ)} {came : List Bool} {q : List ℕ} {behind : List (List ℕ)} {heard : Bool}
-    {missing count : ℕ} {rest : List Mark} (w : AllWhole ps) (field : List ℕ) (h : Header) (private : h .synchronisation ≡ false)
-    (reads : Reads c part tail ps came q behind heard missing count) where
+module _ {F : Family} {limit : ℕ} (G : Sound F limit) {c : Channel} {part tail : List ℕ} {ps : List (List ℕ)} {came : List Bool} {q : List ℕ} {behind : List (List ℕ)} {heard : Bool}
+    {missing count : ℕ} {rest : List Mark} (w : AllWhole F ps) (field : List ℕ) (h : Header) (private : h .synchronisation ≡ false)
+    (reads : Reads F limit c part tail ps came q behind heard missing count) where
   -- an idle frame arrived
   pub idle-arrives : h .pointer ≡ idleData → q ≡ [] → rest ≡ inner q ++ laidOut behind
-      → Good (stepsOf most part field h c) tail ps came 0 rest
-  idle-arrives e z r = rw (steps-idle part field h c private e) (broke-good (c .state) (idle-good w (reads-any reads) z r))
+      → Good F limit (stepsOf F limit part field h c) tail ps came 0 rest
+  idle-arrives e z r = rw (steps-idle F limit part field h c private e) (broke-good (c .state) (idle-good G w (reads-any reads) z r))
 
   -- a frame with packets arrived
   module _ (some : 1 ≤ length field) (few : length field ≤ 2042) (points : h .pointer ≡ calledAt (length field) (length q)) where
-    pub packets-arrive : channelFollows most part c ≡ true → h .count .0 < 256 → h .count .0 ≡ count → (heard ≡ true → missing ≤ mostMissing)
-        → Next q behind field rest → Good (stepsOf most part field h c) tail ps came (length field) rest
+    pub packets-arrive : channelFollows F limit part c ≡ true → h .count .0 < 256 → h .count .0 ≡ count → (heard ≡ true → missing ≤ mostMissing)
+        → Next q behind field rest → Good F limit (stepsOf F limit part field h c) tail ps came (length field) rest
     packets-arrive f k e m n = go reads
       where
-        go : Reads c part tail ps came q behind heard missing count → Good (stepsOf most part field h c) tail ps came (length field) rest
+        go : Reads F limit c part tail ps came q behind heard missing count → Good F limit (stepsOf F limit part field h c) tail ps came (length field) rest
         go (unheard a b l) =
-            rw (steps-on part field h c private (not-idle (length field) (length q) (h .pointer) few points) (gap-unheard c h a))
-            (resumed-good w field some few (h .pointer) points (c .state) part (hunting (unheard-hunts part c f a) l) n)
+            rw (steps-on F limit part field h c private (not-idle (length field) (length q) (h .pointer) few points) (gap-unheard c h a))
+            (resumed-good G w field some few (h .pointer) points (c .state) part (hunting (unheard-hunts F limit part c f a) l) n)
         go (stale a b i g o l) =
             let y : gapFor c h ≡ missing = gap-heard c h missing a i k (m b) (g ∙ sym e) in
-            rw (steps-gap part field h c private (not-idle (length field) (length q) (h .pointer) few points) (λ z. omega arith))
-            (broke-good (c .state) (hunted-good w field some few (h .pointer) points l n))
+            rw (steps-gap F limit part field h c private (not-idle (length field) (length q) (h .pointer) few points) (λ z. omega arith))
+            (broke-good (c .state) (hunted-good G w field some few (h .pointer) points l n))
         go (live a b i g o s) =
             let y : gapFor c h ≡ missing = gap-heard c h missing a i k (m b) (g ∙ sym e) in
-            rw (steps-on part field h c private (not-idle (length field) (length q) (h .pointer) few points) (y ∙ o))
-            (resumed-good w field some few (h .pointer) points (c .state) part s n)
+            rw (steps-on F limit part field h c private (not-idle (length field) (length q) (h .pointer) few points) (y ∙ o))
+            (resumed-good G w field some few (h .pointer) points (c .state) part s n)

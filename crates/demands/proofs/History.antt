@@ -8,8 +8,9 @@ use native.Mathlib.Nat.{zero-add}
 use native.Mathlib.Omega.{arith}
 use lib.ListN.{length, getD, take, drop, replicate}
 use Rattle.octets.specs.Laid.{laid}
-use Rattle.packet.specs.Size.{most}
-use Rattle.packet.specs.Theorems.{AllWhole, endToEnd}
+use Rattle.packet.specs.Family.{Family, Octets, AllWhole}
+use Rattle.packet.specs.Theorems.{endToEnd}
+use Rattle.walk.specs.Theorems.{Sound}
 use Rattle.frame.specs.Counts.{after}
 use Rattle.frame.specs.Opening.{idleData}
 use Rattle.frame.specs.SetUp.{mostLength}
@@ -21,12 +22,12 @@ use Rattle.channel.specs.Store.{storeFits, partOf}
 use Rattle.channel.specs.declared.state.Channel.{Channel}
 use Rattle.channel.specs.declared.state.Record.{Record}
 use Rattle.channel.proofs.Laws.{each-follows}
-use Rattle.reader.specs.Reading.{fieldOf, channelOf, doneBy, reportOf, recordOf, storeOf, outputAfter}
+use Rattle.reader.specs.Reading.{fieldOf, channelOf, doneBy, reportOf, recordOver, storeOver, outputAfter}
 use Rattle.walk.specs.Steps.{Done, courseOf, stepsOf, calledAt}
 use Rattle.walk.specs.Walk.{noTally}
 use Rattle.demands.specs.History.{Harmless, Call, brought, carried, mostMissing, wanted, unwanted}
 use Rattle.demands.specs.History.Event.{lost}
-use Rattle.demands.specs.Sender.{Mark, Octets, Sent, Sends, octetsIn, firstStart, between, inner, laidOut}
+use Rattle.demands.specs.Sender.{Mark, Sent, Sends, octetsIn, firstStart, between, inner, laidOut}
 use Rattle.demands.specs.Sender.Sends.{packets, idle}
 use Rattle.demands.proofs.Calls.{Fine, starts-with, count-lt, read, fine-after, own-after, part-after, carried-none, carried-all, others-keep, other-store}
 use Rattle.demands.proofs.Due.{handed-wanted, tally-wanted, tally-unwanted}
@@ -52,7 +53,7 @@ upcoming (packets count rest f fs x a b c d e) = with-packets x a b c d e
 upcoming (idle count rest f fs x a b c d) = with-none x a b c d
 
 -- what holds between two calls
-pub record Kept (u : SetUp) (v : ℕ) (tail : List ℕ) (ps : List (List ℕ)) (rec : Record) (store : List ℕ) (heard : Bool) (missing : ℕ)
+pub record Kept (F : Family) (limit : ℕ) (u : SetUp) (v : ℕ) (tail : List ℕ) (ps : List (List ℕ)) (rec : Record) (store : List ℕ) (heard : Bool) (missing : ℕ)
     (came : List Bool) (fs : List (List ℕ)) : Type 0 where
   pub count : ℕ
   pub rest : List Mark
@@ -60,21 +61,21 @@ pub record Kept (u : SetUp) (v : ℕ) (tail : List ℕ) (ps : List (List ℕ)) (
   pub behind : List (List ℕ)
   pub sends : Sends u v count rest fs
   pub rest-is : rest ≡ inner to-come ++ laidOut behind
-  pub fine : Fine rec store
-  pub reads : Reads (getD (rec .channels) v freshChannel) (partOf most v store) tail ps came to-come behind heard missing count
+  pub fine : Fine F limit rec store
+  pub reads : Reads F limit (getD (rec .channels) v freshChannel) (partOf limit v store) tail ps came to-come behind heard missing count
 
 -- a lost frame
-lose-reads : {c : Channel} {part tail : List ℕ} {ps : List (List ℕ)} {came came′ : List Bool} {q q′ : List ℕ} {behind behind′ : List (List ℕ)}
-    {heard : Bool} {missing count : ℕ} → Reads c part tail ps came q behind heard missing count → Lost tail ps came′ q′ behind′
-    → Reads c part tail ps came′ q′ behind′ heard (missing + 1) (after count)
+lose-reads : {F : Family} {limit : ℕ} {c : Channel} {part tail : List ℕ} {ps : List (List ℕ)} {came came′ : List Bool} {q q′ : List ℕ} {behind behind′ : List (List ℕ)}
+    {heard : Bool} {missing count : ℕ} → Reads F limit c part tail ps came q behind heard missing count → Lost tail ps came′ q′ behind′
+    → Reads F limit c part tail ps came′ q′ behind′ heard (missing + 1) (after count)
 unfolding after
 lose-reads (unheard a b l) n = unheard a b n
 lose-reads (stale a b h e m l) n = stale a b h (omega arith) (omega arith) n
 lose-reads (live a b h e m s) n = stale a b h (omega arith) (omega arith) n
 
-module _ {u : SetUp} {v : ℕ} {tail : List ℕ} {ps : List (List ℕ)} {rec : Record} {store : List ℕ} {heard : Bool} {missing : ℕ}
-    {came : List Bool} {f : List ℕ} {fs : List (List ℕ)} (w : AllWhole ps)
-    (k : Kept u v tail ps rec store heard missing came (f ∷ fs)) where
+module _ {F : Family} {limit : ℕ} (G : Sound F limit) {u : SetUp} {v : ℕ} {tail : List ℕ} {ps : List (List ℕ)} {rec : Record} {store : List ℕ} {heard : Bool} {missing : ℕ}
+    {came : List Bool} {f : List ℕ} {fs : List (List ℕ)} (w : AllWhole F ps)
+    (k : Kept F limit u v tail ps rec store heard missing came (f ∷ fs)) where
   -- the data field of the next frame
   field-is : (x : Frame) → x .size ≤ length (k .rest) → fieldOf x f ≡ octetsIn (take (x .size) (k .rest))
       → Next (k .to-come) (k .behind) (fieldOf x f) (drop (x .size) (k .rest))
@@ -84,13 +85,13 @@ module _ {u : SetUp} {v : ℕ} {tail : List ℕ} {ps : List (List ℕ)} {rec : R
       → x .header .pointer ≡ calledAt (x .size) (length (k .to-come))
   points-are x a c =
       c ∙ ap (λ (r : List Mark). firstStart 0 (take (x .size) r)) (k .rest-is)
-      ∙ pointer-is (k .to-come) (k .behind) (x .size) (any-whole (reads-any (k .reads)) w) (rw (k .rest-is) at a)
+      ∙ pointer-is F (G .laws) (k .to-come) (k .behind) (x .size) (any-whole F (reads-any (k .reads)) w) (rw (k .rest-is) at a)
 
-  pub after-lost : Kept u v tail ps rec store heard (missing + 1) (came ++ replicate (carried u f) false) fs
+  pub after-lost : Kept F limit u v tail ps rec store heard (missing + 1) (came ++ replicate (carried u f) false) fs
   after-lost = go (upcoming (k .sends))
     where
       by : (n : ℕ) (r : List Mark) → Sends u v (after (k .count)) r fs → carried u f ≡ n → Losing tail ps (came ++ replicate n false) r
-          → Kept u v tail ps rec store heard (missing + 1) (came ++ replicate (carried u f) false) fs
+          → Kept F limit u v tail ps rec store heard (missing + 1) (came ++ replicate (carried u f) false) fs
       by n r s e l =
           rw e
           (record {
@@ -104,7 +105,7 @@ module _ {u : SetUp} {v : ℕ} {tail : List ℕ} {ps : List (List ℕ)} {rec : R
             reads = lose-reads (k .reads) (l .lost);
           })
 
-      go : Upcoming u v (k .count) (k .rest) f fs → Kept u v tail ps rec store heard (missing + 1) (came ++ replicate (carried u f) false) fs
+      go : Upcoming u v (k .count) (k .rest) f fs → Kept F limit u v tail ps rec store heard (missing + 1) (came ++ replicate (carried u f) false) fs
       go (with-packets x s a b c d) =
           let o = opened-sound u f x (s .opens) in
           let l : length (fieldOf x f) ≡ x .size = o .field in
@@ -116,70 +117,70 @@ module _ {u : SetUp} {v : ℕ} {tail : List ℕ} {ps : List (List ℕ)} {rec : R
           (idle-loses (reads-any (k .reads)) (nothing-to-come (k .to-come) (laidOut (k .behind)) (rw (k .rest-is) at b)) (k .rest-is))
 
 -- an arriving frame: what its steps do is right
-record Coming (u : SetUp) (v : ℕ) (tail : List ℕ) (ps : List (List ℕ)) (rec : Record) (store : List ℕ) (came : List Bool) (count : ℕ)
+record Coming (F : Family) (limit : ℕ) (u : SetUp) (v : ℕ) (tail : List ℕ) (ps : List (List ℕ)) (rec : Record) (store : List ℕ) (came : List Bool) (count : ℕ)
     (f : List ℕ) (fs : List (List ℕ)) : Type 0 where
   x : Frame
   sent : Sent u v count f x
   left : List Mark
-  good : Good (doneBy x rec store f) tail ps came (carried u f) left
+  good : Good F limit (doneBy F limit x rec store f) tail ps came (carried u f) left
   sends : Sends u v (after count) left fs
 
-module _ {u : SetUp} {v : ℕ} {tail : List ℕ} {ps : List (List ℕ)} {rec : Record} {store : List ℕ} {heard : Bool} {missing : ℕ}
-    {came : List Bool} {f : List ℕ} {fs : List (List ℕ)} (w : AllWhole ps)
-    (k : Kept u v tail ps rec store heard missing came (f ∷ fs)) (few : heard ≡ true → missing ≤ mostMissing) where
-  coming : Coming u v tail ps rec store came (k .count) f fs
+module _ {F : Family} {limit : ℕ} (G : Sound F limit) {u : SetUp} {v : ℕ} {tail : List ℕ} {ps : List (List ℕ)} {rec : Record} {store : List ℕ} {heard : Bool} {missing : ℕ}
+    {came : List Bool} {f : List ℕ} {fs : List (List ℕ)} (w : AllWhole F ps)
+    (k : Kept F limit u v tail ps rec store heard missing came (f ∷ fs)) (few : heard ≡ true → missing ≤ mostMissing) where
+  coming : Coming F limit u v tail ps rec store came (k .count) f fs
   coming = go (upcoming (k .sends))
     where
       by : (x : Frame) (n : ℕ) (r : List Mark) → Sent u v (k .count) f x → Sends u v (after (k .count)) r fs → carried u f ≡ n
-          → Good (stepsOf most (partOf most v store) (fieldOf x f) (x .header) (getD (rec .channels) v freshChannel)) tail ps came n r
-          → Coming u v tail ps rec store came (k .count) f fs
+          → Good F limit (stepsOf F limit (partOf limit v store) (fieldOf x f) (x .header) (getD (rec .channels) v freshChannel)) tail ps came n r
+          → Coming F limit u v tail ps rec store came (k .count) f fs
       by x n r s d e g =
-          let at : ℕ → Type 0 = λ c. Good (stepsOf most (partOf most c store) (fieldOf x f) (x .header) (getD (rec .channels) c freshChannel))
+          let at : ℕ → Type 0 = λ c. Good F limit (stepsOf F limit (partOf limit c store) (fieldOf x f) (x .header) (getD (rec .channels) c freshChannel))
           tail ps came (carried u f) r in
           record { x = x; sent = s; left = r; good = subst at (sym (s .channel)) (rw e g); sends = d }
 
-      go : Upcoming u v (k .count) (k .rest) f fs → Coming u v tail ps rec store came (k .count) f fs
+      go : Upcoming u v (k .count) (k .rest) f fs → Coming F limit u v tail ps rec store came (k .count) f fs
       go (with-packets x s a b c d) =
           let o = opened-sound u f x (s .opens) in
           let l : length (fieldOf x f) ≡ x .size = o .field in
-          let p = points-are w k x a c in
+          let p = points-are G w k x a c in
           let there : v < length (rec .channels) = omega (arith, o .channel, s .channel, k .fine .eight) in
           by x (length (fieldOf x f)) (drop (x .size) (k .rest)) s d
           (carried-all u f x (s .opens) (not-idle (x .size) (length (k .to-come)) (x .header .pointer) (o .most) p) ∙ sym l)
-          (packets-arrive w (fieldOf x f) (x .header) (s .not-private) (k .reads) (omega (arith, o .least)) (omega (arith, o .most))
-          (p ∙ ap (λ (n : ℕ). calledAt n (length (k .to-come))) (sym l)) (each-follows most store rec .0 (k .fine .follows) v there)
-          (count-lt u f x (s .opens)) (s .counted) few (field-is w k x a b))
+          (packets-arrive G w (fieldOf x f) (x .header) (s .not-private) (k .reads) (omega (arith, o .least)) (omega (arith, o .most))
+          (p ∙ ap (λ (n : ℕ). calledAt n (length (k .to-come))) (sym l)) (each-follows F limit store rec .0 (k .fine .follows) v there)
+          (count-lt u f x (s .opens)) (s .counted) few (field-is G w k x a b))
       go (with-none x s a b d) =
           by x 0 (k .rest) s d (carried-none u f x (s .opens) a)
-          (idle-arrives w (fieldOf x f) (x .header) (s .not-private) (k .reads) a
+          (idle-arrives G w (fieldOf x f) (x .header) (s .not-private) (k .reads) a
           (nothing-to-come (k .to-come) (laidOut (k .behind)) (rw (k .rest-is) at b)) (k .rest-is))
 
-  module _ (out : List ℕ) (room : most + mostLength ≤ length out) where
-    pub arrival-calls : Call u rec store out f (wanted (brought u tail ps came f)) (unwanted (brought u tail ps came f))
+  module _ (out : List ℕ) (room : limit + mostLength ≤ length out) where
+    pub arrival-calls : Call F limit u rec store out f (wanted F (brought limit u tail ps came f)) (unwanted F (brought limit u tail ps came f))
     unfolding reportOf courseOf outputAfter
     arrival-calls =
         let c = coming in
         let x = c .x in
-        let d : Done = doneBy x rec store f in
-        let r = read u rec store out f x (k .fine) room (c .sent .opens) in
+        let d : Done = doneBy F limit x rec store f in
+        let r = read G u rec store out f x (k .fine) room (c .sent .opens) in
         let t = c .good .ran in
         record {
-          report = reportOf x (channelOf x rec) d;
+          report = reportOf F x (channelOf x rec) d;
           accepted = sym (r .answers);
-          hands = sym (r .output-left) ∙ ap (laid out 0) (handed-wanted (d .whole) ∙ ap (λ (b : List (List ℕ)). endToEnd (wanted b)) (t .whole));
-          delivered = tally-wanted noTally (d .whole) ∙ zero-add _ ∙ ap (λ (b : List (List ℕ)). length (wanted b)) (t .whole);
-          idle-ones = tally-unwanted noTally (d .whole) ∙ zero-add _ ∙ ap (λ (b : List (List ℕ)). length (unwanted b)) (t .whole);
+          hands = sym (r .output-left) ∙ ap (laid out 0) (handed-wanted F (d .whole) ∙ ap (λ (b : List (List ℕ)). endToEnd (wanted F b)) (t .whole));
+          delivered = tally-wanted F noTally (d .whole) ∙ zero-add _ ∙ ap (λ (b : List (List ℕ)). length (wanted F b)) (t .whole);
+          idle-ones = tally-unwanted F noTally (d .whole) ∙ zero-add _ ∙ ap (λ (b : List (List ℕ)). length (unwanted F b)) (t .whole);
           none-foreign = t .none-foreign;
           none-disagrees = t .none-disagrees;
         }
 
-    pub arrival-keeps : Kept u v tail ps (recordOf u rec store out f) (storeOf u rec store out f) true 0 (came ++ replicate (carried u f) true) fs
+    pub arrival-keeps : Kept F limit u v tail ps (recordOver F limit u rec store out f) (storeOver F limit u rec store out f) true 0 (came ++ replicate (carried u f) true) fs
     unfolding after
     arrival-keeps =
         let c = coming in
         let x = c .x in
         let s = c .sent in
-        let d : Done = doneBy x rec store f in
+        let d : Done = doneBy F limit x rec store f in
         let g = c .good in
         record {
           count = after (k .count);
@@ -188,23 +189,23 @@ module _ {u : SetUp} {v : ℕ} {tail : List ℕ} {ps : List (List ℕ)} {rec : R
           behind = g .behind;
           sends = c .sends;
           rest-is = g .rest-is;
-          fine = fine-after u rec store out f x (k .fine) room (s .opens) (s .real);
+          fine = fine-after G u rec store out f x (k .fine) room (s .opens) (s .real);
           reads =
               rw (
-                own-after u rec store out f x (k .fine) room (s .opens) (s .real) v (s .channel),
-                part-after u rec store out f x (k .fine) room (s .opens) (s .real) v (s .channel),
+                own-after G u rec store out f x (k .fine) room (s .opens) (s .real) v (s .channel),
+                part-after G u rec store out f x (k .fine) room (s .opens) (s .real) v (s .channel),
               )
               (live refl refl (count-lt u f x (s .opens)) (omega (arith, s .counted)) refl
-              (g .stands (laid (partOf most v store) 0 (d .held)) (starts-with (partOf most v store) (d .held))));
+              (g .stands (laid (partOf limit v store) 0 (d .held)) (starts-with (partOf limit v store) (d .held))));
         }
 
 -- every other call
-module _ {u : SetUp} {v : ℕ} {tail : List ℕ} {ps : List (List ℕ)} {rec : Record} {store : List ℕ} {heard : Bool} {missing : ℕ}
-    {came : List Bool} {fs : List (List ℕ)} (k : Kept u v tail ps rec store heard missing came fs) where
-  pub other-keeps : (u′ : SetUp) (out f : List ℕ) → v < 8 → Octets f → Harmless v u′ rec store out f
-      → Kept u v tail ps (recordOf u′ rec store out f) (storeOf u′ rec store out f) heard missing came fs
+module _ {F : Family} {limit : ℕ} (G : Sound F limit) {u : SetUp} {v : ℕ} {tail : List ℕ} {ps : List (List ℕ)} {rec : Record} {store : List ℕ} {heard : Bool} {missing : ℕ}
+    {came : List Bool} {fs : List (List ℕ)} (k : Kept F limit u v tail ps rec store heard missing came fs) where
+  pub other-keeps : (u′ : SetUp) (out f : List ℕ) → v < 8 → Octets f → Harmless F limit v u′ rec store out f
+      → Kept F limit u v tail ps (recordOver F limit u′ rec store out f) (storeOver F limit u′ rec store out f) heard missing came fs
   other-keeps u′ out f h o n =
-      let s = others-keep v u′ rec store out f h (k .fine) o n in
+      let s = others-keep G v u′ rec store out f h (k .fine) o n in
       record {
         count = k .count;
         rest = k .rest;
@@ -216,6 +217,6 @@ module _ {u : SetUp} {v : ℕ} {tail : List ℕ} {ps : List (List ℕ)} {rec : R
         reads = rw (s .channel, s .part) (k .reads);
       }
 
-  pub refused-keeps : (u′ : SetUp) (s out f : List ℕ) → storeFits most (length s) ≡ false
-      → Kept u v tail ps (recordOf u′ rec s out f) store heard missing came fs
-  refused-keeps u′ s out f e = rw (other-store u′ rec s out f e) k
+  pub refused-keeps : (u′ : SetUp) (s out f : List ℕ) → storeFits limit (length s) ≡ false
+      → Kept F limit u v tail ps (recordOver F limit u′ rec s out f) store heard missing came fs
+  refused-keeps u′ s out f e = rw (other-store F limit u′ rec s out f e) k

@@ -6,7 +6,9 @@ use mathlib.Core.List.{List, [], _∷_, _++_, append-nil}
 use Prim.Native.Nat.{ℕ, _≤_}
 use native.Mathlib.Omega.{arith}
 use lib.ListN.{length, replicate, length-append}
-use Rattle.packet.specs.Theorems.{AllWhole, endToEnd}
+use Rattle.packet.specs.Family.{Family, AllWhole}
+use Rattle.packet.specs.Theorems.{endToEnd}
+use Rattle.walk.specs.Theorems.{Sound}
 use Rattle.channel.specs.declared.state.State.{State}
 use Rattle.walk.specs.Steps.{Done, only, broke}
 use Rattle.channel.specs.declared.state.State.the-variants.{Hunting}
@@ -36,7 +38,7 @@ module _ {tail : List ℕ} {ps : List (List ℕ)} {came : List Bool} {q : List �
   any-lost (lost-free s) = any-free s
   any-lost (lost-inside begun s) = any-inside begun false s
 
-  pub any-stand : {σ : State} {part : List ℕ} → Stand σ part tail ps came q behind → Any tail ps came q behind
+  pub any-stand : {F : Family} {limit : ℕ} {σ : State} {part : List ℕ} → Stand F limit σ part tail ps came q behind → Any tail ps came q behind
   any-stand (hunting e l) = any-lost l
   any-stand (between-packets e z s) = any-free s
   any-stand (gathers begun e h o s) = any-inside begun true s
@@ -46,8 +48,8 @@ module _ {tail : List ℕ} {ps : List (List ℕ)} {came : List Bool} {q : List �
   any-spot (any-free s) = free-spot s
   any-spot (any-inside begun b s) = inside-spot s
 
-  pub any-whole : Any tail ps came q behind → AllWhole ps → AllWhole behind
-  any-whole s w = spot-whole (any-spot s) w
+  pub any-whole : (F : Family) → Any tail ps came q behind → AllWhole F ps → AllWhole F behind
+  any-whole F s w = spot-whole F (any-spot s) w
 
   lost-bit : (b : Bool) {begun : List ℕ} → Inside tail ps came begun q behind (b && false) → Inside tail ps came begun q behind false
   lost-bit true s = s
@@ -101,17 +103,17 @@ module _ {tail : List ℕ} {ps : List (List ℕ)} {came : List Bool} {q : List �
       → Losing tail ps (came ++ replicate 0 false) rest
   idle-loses s e r = record { to-come = q; behind = behind; rest-is = r; lost = idle-same false s e }
 
-  pub idle-good : {rest : List Mark} → AllWhole ps → Any tail ps came q behind → q ≡ [] → rest ≡ inner q ++ laidOut behind
-      → Good (only Hunting) tail ps came 0 rest
-  idle-good w s e r =
-      only-good q behind
-      (lost-full 0 (lost-free (idle-free s e)) [] behind 0 refl tt tt (omega (arith, ap length e)) (omega arith)
-      (late-all (length came) _ _ _ behind (spot-whole (any-spot s) w) (omega arith)))
+  pub idle-good : {F : Family} {limit : ℕ} (G : Sound F limit) {rest : List Mark} → AllWhole F ps → Any tail ps came q behind → q ≡ [] → rest ≡ inner q ++ laidOut behind
+      → Good F limit (only Hunting) tail ps came 0 rest
+  idle-good {F} {limit} G w s e r =
+      only-good G q behind
+      (lost-full G 0 (lost-free (idle-free s e)) [] behind 0 refl tt tt (omega (arith, ap length e)) (omega arith)
+      (late-all F (G .laws) limit (length came) _ _ _ behind (spot-whole F (any-spot s) w) (omega arith)))
       (idle-same true s e) r
 
 -- a packet that was broken besides changes none of this
-pub broke-good : {d : Done} {tail : List ℕ} {ps : List (List ℕ)} {came : List Bool} {D : ℕ} {rest : List Mark} (s : State)
-    → Good d tail ps came D rest → Good (broke s d) tail ps came D rest
+pub broke-good : {F : Family} {limit : ℕ} {d : Done} {tail : List ℕ} {ps : List (List ℕ)} {came : List Bool} {D : ℕ} {rest : List Mark} (s : State)
+    → Good F limit d tail ps came D rest → Good F limit (broke s d) tail ps came D rest
 broke-good s g =
     record {
       ran = record { whole = g .ran .whole; none-foreign = g .ran .none-foreign; none-disagrees = g .ran .none-disagrees };

@@ -21,7 +21,7 @@ use Rattle.writer.proofs.Laws.{laid-well}
 use Rattle.writer.proofs.LayingLaws.{length-left, length-run, length-placed, none-after}
 use Rattle.demands.specs.Demand2.{Writing, Fair, frames, placeAfter}
 use Rattle.demands.specs.History.{carried}
-use Rattle.demands.specs.Sender.{Octets}
+use Rattle.packet.specs.Family.{Octets}
 use Rattle.demands.proofs.AllOut.{total, total-more}
 use Rattle.demands.proofs.Calls.{carried-all}
 use Rattle.demands.proofs.Hears.{not-idle}

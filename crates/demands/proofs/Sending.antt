@@ -9,7 +9,10 @@ use lib.Dec.{eqb}
 use lib.ListN.{length, take, drop, length-append, drop-of-length-le}
 use borrow.Author.Tests.{eqb-true, eq-eqb}
 use Rattle.packet.specs.Chain.{distanceOf}
-use Rattle.packet.specs.Theorems.{AllWhole, endToEnd}
+use Rattle.packet.specs.Family.{Octets, AllWhole}
+use Rattle.packet.specs.Size.{source}
+use Rattle.packet.specs.Theorems.{endToEnd}
+use Rattle.packet.proofs.Laws.{source-lawful}
 use Rattle.packet.proofs.ChainLaws.{distance-exactly, distance-at-end}
 use Rattle.frame.specs.Closing.{closeSize}
 use Rattle.frame.specs.Counts.{after}
@@ -27,7 +30,7 @@ use Rattle.writer.specs.declared.writing.Place.{Place}
 use Rattle.writer.proofs.Laws.{laid-well}
 use Rattle.writer.proofs.LayingLaws.{length-placed}
 use Rattle.demands.specs.Demand2.{Writing, Fair, frames, fillers, fillerFor}
-use Rattle.demands.specs.Sender.{Mark, Octets, Sends, inner, marksOf, laidOut, firstStart, between}
+use Rattle.demands.specs.Sender.{Mark, Sends, inner, marksOf, laidOut, firstStart, between}
 use Rattle.demands.specs.Sender.Sends.{no-more, packets, idle}
 use Rattle.demands.proofs.Field.{drop-exact, drop-midst}
 use Rattle.demands.proofs.Fillers.{AllIdle, idle-append, whole-append, filler-whole, filler-idle}
@@ -42,34 +45,34 @@ record Ahead (ps : List (List ℕ)) (offset : ℕ) : Type 0 where
   rest : List ℕ
   behind : List (List ℕ)
   marks-are : drop offset (laidOut ps) ≡ inner rest ++ laidOut behind
-  whole : AllWhole behind
+  whole : AllWhole source behind
   distance : distanceOf (endToEnd ps) offset ≡ length rest
 
-ahead-of : (ps : List (List ℕ)) (offset : ℕ) → AllWhole ps → Cut offset ps → Ahead ps offset
+ahead-of : (ps : List (List ℕ)) (offset : ℕ) → AllWhole source ps → Cut offset ps → Ahead ps offset
 unfolding inner
 ahead-of ps offset w (exact ws [] e k) =
-    let v : AllWhole (ws ++ []) = rw e at w in
+    let v : AllWhole source (ws ++ []) = rw e at w in
     record {
       rest = [];
       behind = [];
       marks-are = ap₂ (λ (x : List (List ℕ)) (n : ℕ). drop n (laidOut x)) e k ∙ drop-exact ws [];
       whole = tt;
-      distance = ap₂ (λ (x : List (List ℕ)) (n : ℕ). distanceOf (endToEnd x) n) (e ∙ append-nil ws) k ∙ distance-at-end ws (whole-left ws [] v);
+      distance = ap₂ (λ (x : List (List ℕ)) (n : ℕ). distanceOf (endToEnd x) n) (e ∙ append-nil ws) k ∙ distance-at-end ws (whole-left source ws [] v);
     }
 ahead-of ps offset w (exact ws (p ∷ behind) e k) =
-    let v : AllWhole (ws ++ p ∷ behind) = rw e at w in
-    let r = whole-right ws (p ∷ behind) v in
+    let v : AllWhole source (ws ++ p ∷ behind) = rw e at w in
+    let r = whole-right source ws (p ∷ behind) v in
     record {
       rest = [];
       behind = p ∷ behind;
       marks-are = ap₂ (λ (x : List (List ℕ)) (n : ℕ). drop n (laidOut x)) e k ∙ drop-exact ws (p ∷ behind);
       whole = r;
       distance = ap₂ (λ (x : List (List ℕ)) (n : ℕ). distanceOf (endToEnd x) n) e k
-          ∙ distance-exactly ws p behind (whole-left ws (p ∷ behind) v) (r .0) (r .1) .0;
+          ∙ distance-exactly ws p behind (whole-left source ws (p ∷ behind) v) (r .0) (r .1) .0;
     }
 ahead-of ps offset w (midst ws begun left behind e k a b) =
-    let v : AllWhole (ws ++ (begun ++ left) ∷ behind) = rw e at w in
-    let r = whole-right ws ((begun ++ left) ∷ behind) v in
+    let v : AllWhole source (ws ++ (begun ++ left) ∷ behind) = rw e at w in
+    let r = whole-right source ws ((begun ++ left) ∷ behind) v in
     let l : length (begun ++ left) - length begun ≡ length left = omega (arith, length-append begun left) in
     record {
       rest = left;
@@ -77,13 +80,13 @@ ahead-of ps offset w (midst ws begun left behind e k a b) =
       marks-are = ap₂ (λ (x : List (List ℕ)) (n : ℕ). drop n (laidOut x)) e k ∙ drop-midst ws behind begun left a;
       whole = r .1;
       distance = ap₂ (λ (x : List (List ℕ)) (n : ℕ). distanceOf (endToEnd x) n) e k
-          ∙ distance-exactly ws (begun ++ left) behind (whole-left ws ((begun ++ left) ∷ behind) v) (r .0) (r .1) .1 (length begun) a
+          ∙ distance-exactly ws (begun ++ left) behind (whole-left source ws ((begun ++ left) ∷ behind) v) (r .0) (r .1) .1 (length begun) a
           (omega (arith, length-append begun left))
           ∙ l;
     }
 
 -- the pointer of a field that begins with what is to be sent
-pointer-first : (ps qs : List (List ℕ)) (offset left D : ℕ) → AllWhole ps → AllWhole qs → offset ≤ length (endToEnd ps) → left ≤ 6
+pointer-first : (ps qs : List (List ℕ)) (offset left D : ℕ) → AllWhole source ps → AllWhole source qs → offset ≤ length (endToEnd ps) → left ≤ 6
     → D ≤ length (toSend ps offset left qs)
     → calledAt D (left + distanceOf (endToEnd ps) offset) ≡ firstStart 0 (take D (toSend ps offset left qs))
 pointer-first ps qs offset left D w v h few long =
@@ -98,7 +101,7 @@ pointer-first ps qs offset left D w v h few long =
     length-append t (a .rest) ∙ ap₂ (λ (x y : ℕ). x + y) (length-tail left few) (sym (a .distance)) in
     sym
     (ap (λ (x : List Mark). firstStart 0 (take D x)) same
-    ∙ pointer-is (t ++ a .rest) (a .behind ++ qs) D (whole-append (a .behind) qs (a .whole) v) (rw same at long)
+    ∙ pointer-is source source-lawful (t ++ a .rest) (a .behind ++ qs) D (whole-append (a .behind) qs (a .whole) v) (rw same at long)
     ∙ ap (calledAt D) l)
 
 -- the pointer as laid
@@ -115,7 +118,7 @@ unfolding closeSize
 size-most u w e = let r = in-range u e in omega arith
 
 -- fillers are whole and idle
-pub fillers-whole : (u : SetUp) (v : ℕ) (run : List ℕ) → fitsOf u ≡ true → (cs : List Writing) (p : Place) → AllWhole (fillers u v run p cs)
+pub fillers-whole : (u : SetUp) (v : ℕ) (run : List ℕ) → fitsOf u ≡ true → (cs : List Writing) (p : Place) → AllWhole source (fillers u v run p cs)
 unfolding fillers
 fillers-whole u v run e [] p = tt
 fillers-whole u v run e (c ∷ cs) p =
@@ -127,10 +130,10 @@ fillers-idle u v run [] p = tt
 fillers-idle u v run (c ∷ cs) p = idle-append (fillerFor _ _) _ (filler-idle _ _) (fillers-idle u v run cs _)
 
 -- between packets
-between-laid : (fs : List (List ℕ)) → AllWhole fs → between (laidOut fs) ≡ true
+between-laid : (fs : List (List ℕ)) → AllWhole source fs → between (laidOut fs) ≡ true
 unfolding between laidOut marksOf
 between-laid [] w = refl
-between-laid ([] ∷ fs) w = absurd (omega (arith, whole-some [] (w .0)))
+between-laid ([] ∷ fs) w = absurd (omega (arith, whole-some source source-lawful [] (w .0)))
 between-laid ((o ∷ p) ∷ fs) w = refl
 
 nothing-in : (l : List ℕ) → length l ≡ 0 → l ≡ []
@@ -167,9 +170,9 @@ later u ps p w fs =
     (leftOverAfter (closeSize u w) (endToEnd ps) (p .offset) (p .«left_over»)) fs
 
 -- one call
-module _ {u : SetUp} {v : ℕ} (ps : List (List ℕ)) {p : Place} (s : Writes u v (endToEnd ps) p) (whole : AllWhole ps)
+module _ {u : SetUp} {v : ℕ} (ps : List (List ℕ)) {p : Place} (s : Writes u v (endToEnd ps) p) (whole : AllWhole source ps)
     (real : Octets (endToEnd ps)) (w : ControlWord) (out : List ℕ) (e : length out ≡ u .length) (small : wordNumber w < 2 ^ 32)
-    (fs fr : List (List ℕ)) (more : AllWhole fs) where
+    (fs fr : List (List ℕ)) (more : AllWhole source fs) where
   step-packets : nothingOf (endToEnd ps) (p .offset) (p .«left_over») ≡ false → Sends u v (after (p .count .0)) (later u ps p w fs) fr
       → Sends u v (p .count .0) (now u ps p w fs) (frameWritten u v p w (endToEnd ps) ∷ fr)
   step-packets z on =
@@ -218,7 +221,7 @@ module _ {u : SetUp} {v : ℕ} (ps : List (List ℕ)) {p : Place} (s : Writes u 
       rw (output-is s w out e) (step (subst at (next-is s w out e) on))
 
 -- all calls
-pub sends : (u : SetUp) (v : ℕ) (ps : List (List ℕ)) → AllWhole ps → Octets (endToEnd ps) → (cs : List Writing) (p : Place)
+pub sends : (u : SetUp) (v : ℕ) (ps : List (List ℕ)) → AllWhole source ps → Octets (endToEnd ps) → (cs : List Writing) (p : Place)
     → Writes u v (endToEnd ps) p → Fair u cs
     → Sends u v (p .count .0) (toSend ps (p .offset) (p .«left_over») (fillers u v (endToEnd ps) p cs)) (frames u v (endToEnd ps) p cs)
 unfolding frames fillers

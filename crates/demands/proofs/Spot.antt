@@ -10,8 +10,9 @@ use native.Mathlib.Nat.{add-zero}
 use native.Mathlib.Omega.{arith}
 use lib.ListN.{length, take, drop, replicate, length-append, length-replicate, replicate-append-replicate}
 use lib.Seq.{append-snoc, drop-at, take-append-add}
-use Rattle.packet.specs.Size.{most}
-use Rattle.packet.specs.Theorems.{Whole, AllWhole, endToEnd}
+use Rattle.packet.specs.Family.{Family, Lawful, Whole, AllWhole}
+use Rattle.packet.specs.Theorems.{endToEnd}
+use Rattle.walk.specs.Theorems.{Sound}
 use Rattle.demands.specs.History.{allArrived, lastIn}
 use Rattle.demands.proofs.Aligned.{AllFit}
 use Rattle.demands.proofs.Due.{arrived-append, all-came, none-came, take-same, long, gone, due, late-all, late-first, early-all, due-all}
@@ -54,23 +55,23 @@ all-same n true h = all-came n
 all-same n false h = none-came n h
 
 -- the packets whose last octet an arriving frame of D octets brings
-abbrev pub finishes : List ℕ → List (List ℕ) → List Bool → ℕ → List (List ℕ)
-finishes tail ps came D = lastIn (length came) (length came + D) (came ++ replicate D true) (length tail) ps
+abbrev pub finishes : ℕ → List ℕ → List (List ℕ) → List Bool → ℕ → List (List ℕ)
+finishes limit tail ps came D = lastIn limit (length came) (length came + D) (came ++ replicate D true) (length tail) ps
 
 -- of the packets behind q those that end within an arriving frame of D octets
-behind-full : (came : List Bool) (q : List ℕ) (behind : List (List ℕ)) (D : ℕ) (ws r : List (List ℕ)) (m : ℕ) → behind ≡ ws ++ r → AllWhole ws → AllFit most ws → D ≡ length q + m
+behind-full : (F : Family) (laws : Lawful F) (limit : ℕ) (came : List Bool) (q : List ℕ) (behind : List (List ℕ)) (D : ℕ) (ws r : List (List ℕ)) (m : ℕ) → behind ≡ ws ++ r → AllWhole F ws → AllFit limit ws → D ≡ length q + m
     → length (endToEnd ws) ≤ m
-    → lastIn (length came) (length came + D) (came ++ replicate D true) (length came + length q) behind
-    ≡ ws ++ lastIn (length came) (length came + D) (came ++ replicate D true) (length came + length q + length (endToEnd ws)) r
-behind-full came q behind D ws r m e w f d h =
+    → lastIn limit (length came) (length came + D) (came ++ replicate D true) (length came + length q) behind
+    ≡ ws ++ lastIn limit (length came) (length came + D) (came ++ replicate D true) (length came + length q + length (endToEnd ws)) r
+behind-full F laws limit came q behind D ws r m e w f d h =
     let a : ℕ = length came in
     let pre : List Bool = came ++ replicate (length q) true in
     let same : pre ++ replicate m true ≡ came ++ replicate D true =
     append-assoc came (replicate (length q) true) (replicate m true)
     ∙ ap (λ (x : List Bool). came ++ x) (replicate-append-replicate (length q) m true ∙ ap (λ (n : ℕ). replicate n true) (sym d)) in
-    ap₂ (λ (c : List Bool) (x : List (List ℕ)). lastIn a (a + D) c (a + length q) x) (sym same) e
-    ∙ due-all a (a + D) pre m (a + length q) ws r w f (longer came (length q) true) (omega arith) h (omega arith)
-    ∙ ap (λ (c : List Bool). ws ++ lastIn a (a + D) c (a + length q + length (endToEnd ws)) r) same
+    ap₂ (λ (c : List Bool) (x : List (List ℕ)). lastIn limit a (a + D) c (a + length q) x) (sym same) e
+    ∙ due-all F laws limit a (a + D) pre m (a + length q) ws r w f (longer came (length q) true) (omega arith) h (omega arith)
+    ∙ ap (λ (c : List Bool). ws ++ lastIn limit a (a + D) c (a + length q + length (endToEnd ws)) r) same
 
 module _ {tail : List ℕ} {ps : List (List ℕ)} {came : List Bool} {q : List ℕ} {behind : List (List ℕ)} where
   pub free-spot : Free tail ps came q behind → Spot tail ps came q behind
@@ -88,11 +89,11 @@ module _ {tail : List ℕ} {ps : List (List ℕ)} {came : List Bool} {q : List �
         place = omega (arith, length-append begun q, s .place, s .as-many, l, c);
       }
 
-  pub spot-whole : Spot tail ps came q behind → AllWhole ps → AllWhole behind
-  spot-whole s w = whole-right (s .done) behind (rw (s .split) at w)
+  pub spot-whole : (F : Family) → Spot tail ps came q behind → AllWhole F ps → AllWhole F behind
+  spot-whole F s w = whole-right F (s .done) behind (rw (s .split) at w)
 
-  pub inside-whole : {begun : List ℕ} {b : Bool} → Inside tail ps came begun q behind b → AllWhole ps → Whole (begun ++ q)
-  inside-whole {begun} s w = let v = whole-right (s .done) ((begun ++ q) ∷ behind) (rw (s .split) at w) in v .0
+  pub inside-whole : (F : Family) {begun : List ℕ} {b : Bool} → Inside tail ps came begun q behind b → AllWhole F ps → Whole F (begun ++ q)
+  inside-whole F {begun} s w = let v = whole-right F (s .done) ((begun ++ q) ∷ behind) (rw (s .split) at w) in v .0
 
   -- the frame stays within q
   still-free : (a b : List ℕ) (D : ℕ) (c : Bool) → Free tail ps came q behind → q ≡ a ++ b → 1 ≤ length b → D ≡ length a
@@ -157,35 +158,35 @@ module _ {tail : List ℕ} {ps : List (List ℕ)} {came : List Bool} {q : List �
       }
 
   -- the packets that an arriving frame finishes
-  module _ (D : ℕ) where
+  module _ {F : Family} {limit : ℕ} (G : Sound F limit) (D : ℕ) where
     -- if none is under way, those behind q
     free-skips : Free tail ps came q behind → (b : ℕ) (c : List Bool)
-        → lastIn (length came) b c (length tail) ps ≡ lastIn (length came) b c (length came + length q) behind
+        → lastIn limit (length came) b c (length tail) ps ≡ lastIn limit (length came) b c (length came + length q) behind
     free-skips s b c = go (s .over)
       where
         a : ℕ
         a = length came
 
-        go : (s .done ≡ []) ⊎ (length q ≡ 0) → lastIn a b c (length tail) ps ≡ lastIn a b c (a + length q) behind
+        go : (s .done ≡ []) ⊎ (length q ≡ 0) → lastIn limit a b c (length tail) ps ≡ lastIn limit a b c (a + length q) behind
         go (inl z) =
             let l : a + length q ≡ length tail = s .place ∙ ap (λ (x : List (List ℕ)). length tail + length (endToEnd x)) z ∙ add-zero (length tail) in
-            ap₂ (λ (n : ℕ) (x : List (List ℕ)). lastIn a b c n x) (sym l) (s .split ∙ ap (λ (x : List (List ℕ)). x ++ behind) z)
+            ap₂ (λ (n : ℕ) (x : List (List ℕ)). lastIn limit a b c n x) (sym l) (s .split ∙ ap (λ (x : List (List ℕ)). x ++ behind) z)
         go (inr z) =
-            ap (λ (x : List (List ℕ)). lastIn a b c (length tail) x) (s .split)
-            ∙ early-all a b c (length tail) (s .done) behind (omega (arith, s .place))
-            ∙ ap (λ (n : ℕ). lastIn a b c n behind) (sym (s .place))
+            ap (λ (x : List (List ℕ)). lastIn limit a b c (length tail) x) (s .split)
+            ∙ early-all limit a b c (length tail) (s .done) behind (omega (arith, s .place))
+            ∙ ap (λ (n : ℕ). lastIn limit a b c n behind) (sym (s .place))
 
     module _ {begun : List ℕ} {x : Bool} (s : Inside tail ps came begun q behind x) where
       came-length : length came ≡ length (s .pre) + length (s .mid)
       came-length = ap length (s .came-is) ∙ length-append (s .pre) (s .mid)
 
       inside-skips : (b : ℕ) (c : List Bool)
-          → lastIn (length came) b c (length tail) ps ≡ lastIn (length came) b c (length (s .pre)) ((begun ++ q) ∷ behind)
+          → lastIn limit (length came) b c (length tail) ps ≡ lastIn limit (length came) b c (length (s .pre)) ((begun ++ q) ∷ behind)
       inside-skips b c =
           let a : ℕ = length came in
-          ap (λ (x : List (List ℕ)). lastIn a b c (length tail) x) (s .split)
-          ∙ early-all a b c (length tail) (s .done) ((begun ++ q) ∷ behind) (omega (arith, s .place, came-length))
-          ∙ ap (λ (n : ℕ). lastIn a b c n ((begun ++ q) ∷ behind)) (sym (s .place))
+          ap (λ (x : List (List ℕ)). lastIn limit a b c (length tail) x) (s .split)
+          ∙ early-all limit a b c (length tail) (s .done) ((begun ++ q) ∷ behind) (omega (arith, s .place, came-length))
+          ∙ ap (λ (n : ℕ). lastIn limit a b c n ((begun ++ q) ∷ behind)) (sym (s .place))
 
       -- all of the packet under way arrived exactly when its octets so far did
       inside-arrived : length q ≤ D → allArrived (take (length (begun ++ q)) (drop (length (s .pre)) (came ++ replicate D true))) ≡ x
@@ -207,49 +208,49 @@ module _ {tail : List ℕ} {ps : List (List ℕ)} {came : List Bool} {q : List �
       inside-place : length (s .pre) + length (begun ++ q) ≡ length came + length q
       inside-place = omega (arith, came-length, length-append begun q, s .as-many)
 
-      gone-full : (ws r : List (List ℕ)) (m : ℕ) → x ≡ false → behind ≡ ws ++ r → AllWhole ws → AllFit most ws → D ≡ length q + m
+      gone-full : (ws r : List (List ℕ)) (m : ℕ) → x ≡ false → behind ≡ ws ++ r → AllWhole F ws → AllFit limit ws → D ≡ length q + m
           → length (endToEnd ws) ≤ m
-          → lastIn (length came) (length came + D) (came ++ replicate D true) (length came + length q + length (endToEnd ws)) r ≡ []
-          → finishes tail ps came D ≡ ws
+          → lastIn limit (length came) (length came + D) (came ++ replicate D true) (length came + length q + length (endToEnd ws)) r ≡ []
+          → finishes limit tail ps came D ≡ ws
       gone-full ws r m y e w f d h z =
           let a : ℕ = length came in
           let c : List Bool = came ++ replicate D true in
           inside-skips (a + D) c
-          ∙ gone a (a + D) c (length (s .pre)) (begun ++ q) behind (inside-arrived (omega arith) ∙ y)
-          ∙ ap (λ (n : ℕ). lastIn a (a + D) c n behind) inside-place
-          ∙ behind-full came q behind D ws r m e w f d h ∙ ap (λ (l : List (List ℕ)). ws ++ l) z ∙ append-nil ws
+          ∙ gone limit a (a + D) c (length (s .pre)) (begun ++ q) behind (inside-arrived (omega arith) ∙ y)
+          ∙ ap (λ (n : ℕ). lastIn limit a (a + D) c n behind) inside-place
+          ∙ behind-full F (G .laws) limit came q behind D ws r m e w f d h ∙ ap (λ (l : List (List ℕ)). ws ++ l) z ∙ append-nil ws
 
-      pub skip-full : (ws r : List (List ℕ)) (m : ℕ) → most < length (begun ++ q) → behind ≡ ws ++ r → AllWhole ws → AllFit most ws
+      pub skip-full : (ws r : List (List ℕ)) (m : ℕ) → limit < length (begun ++ q) → behind ≡ ws ++ r → AllWhole F ws → AllFit limit ws
           → D ≡ length q + m → length (endToEnd ws) ≤ m
-          → lastIn (length came) (length came + D) (came ++ replicate D true) (length came + length q + length (endToEnd ws)) r ≡ []
-          → finishes tail ps came D ≡ ws
+          → lastIn limit (length came) (length came + D) (came ++ replicate D true) (length came + length q + length (endToEnd ws)) r ≡ []
+          → finishes limit tail ps came D ≡ ws
       skip-full ws r m y e w f d h z =
           let a : ℕ = length came in
           let c : List Bool = came ++ replicate D true in
           inside-skips (a + D) c
-          ∙ long a (a + D) c (length (s .pre)) (begun ++ q) behind y
-          ∙ ap (λ (n : ℕ). lastIn a (a + D) c n behind) inside-place
-          ∙ behind-full came q behind D ws r m e w f d h ∙ ap (λ (l : List (List ℕ)). ws ++ l) z ∙ append-nil ws
+          ∙ long limit a (a + D) c (length (s .pre)) (begun ++ q) behind y
+          ∙ ap (λ (n : ℕ). lastIn limit a (a + D) c n behind) inside-place
+          ∙ behind-full F (G .laws) limit came q behind D ws r m e w f d h ∙ ap (λ (l : List (List ℕ)). ws ++ l) z ∙ append-nil ws
 
-      pub held-full : (ws r : List (List ℕ)) (m : ℕ) → x ≡ true → length (begun ++ q) ≤ most → behind ≡ ws ++ r → AllWhole ws
-          → AllFit most ws → D ≡ length q + m → length (endToEnd ws) ≤ m
-          → lastIn (length came) (length came + D) (came ++ replicate D true) (length came + length q + length (endToEnd ws)) r ≡ []
-          → finishes tail ps came D ≡ (begun ++ q) ∷ ws
+      pub held-full : (ws r : List (List ℕ)) (m : ℕ) → x ≡ true → length (begun ++ q) ≤ limit → behind ≡ ws ++ r → AllWhole F ws
+          → AllFit limit ws → D ≡ length q + m → length (endToEnd ws) ≤ m
+          → lastIn limit (length came) (length came + D) (came ++ replicate D true) (length came + length q + length (endToEnd ws)) r ≡ []
+          → finishes limit tail ps came D ≡ (begun ++ q) ∷ ws
       held-full ws r m y i e w f d h z =
           let a : ℕ = length came in
           let c : List Bool = came ++ replicate D true in
           inside-skips (a + D) c
-          ∙ due a (a + D) c (length (s .pre)) (begun ++ q) behind
+          ∙ due limit a (a + D) c (length (s .pre)) (begun ++ q) behind
           (omega (arith, inside-place, s .more)) (omega (arith, inside-place)) i (inside-arrived (omega arith) ∙ y)
           ∙ ap (λ (l : List (List ℕ)). (begun ++ q) ∷ l)
-          (ap (λ (n : ℕ). lastIn a (a + D) c n behind) inside-place
-          ∙ behind-full came q behind D ws r m e w f d h ∙ ap (λ (l : List (List ℕ)). ws ++ l) z ∙ append-nil ws)
+          (ap (λ (n : ℕ). lastIn limit a (a + D) c n behind) inside-place
+          ∙ behind-full F (G .laws) limit came q behind D ws r m e w f d h ∙ ap (λ (l : List (List ℕ)). ws ++ l) z ∙ append-nil ws)
 
-      pub inside-none : AllWhole behind → D < length q → finishes tail ps came D ≡ []
+      pub inside-none : AllWhole F behind → D < length q → finishes limit tail ps came D ≡ []
       inside-none w h =
           let a : ℕ = length came in
           let c : List Bool = came ++ replicate D true in
-          inside-skips (a + D) c ∙ late-first a (a + D) c (length (s .pre)) (begun ++ q) behind w (omega (arith, inside-place))
+          inside-skips (a + D) c ∙ late-first F (G .laws) limit a (a + D) c (length (s .pre)) (begun ++ q) behind w (omega (arith, inside-place))
 
 -- no packet is under way, or one that has lost an octet
 pub data Lost (tail : List ℕ) (ps : List (List ℕ)) (came : List Bool) (q : List ℕ) (behind : List (List ℕ)) : Type 0 where
@@ -261,23 +262,23 @@ module _ {tail : List ℕ} {ps : List (List ℕ)} {came : List Bool} {q : List �
   lost-spot (lost-free s) = free-spot s
   lost-spot (lost-inside begun s) = inside-spot s
 
-  pub lost-none : (D : ℕ) → Lost tail ps came q behind → AllWhole behind → D < length q → finishes tail ps came D ≡ []
-  lost-none D (lost-free s) w h =
+  pub lost-none : {F : Family} {limit : ℕ} (G : Sound F limit) (D : ℕ) → Lost tail ps came q behind → AllWhole F behind → D < length q → finishes limit tail ps came D ≡ []
+  lost-none {F} {limit} G D (lost-free s) w h =
       let a : ℕ = length came in
       let c : List Bool = came ++ replicate D true in
-      free-skips D s (a + D) c ∙ late-all a (a + D) c (a + length q) behind w (omega arith)
-  lost-none D (lost-inside begun s) w h = inside-none D s w h
+      free-skips G D s (a + D) c ∙ late-all F (G .laws) limit a (a + D) c (a + length q) behind w (omega arith)
+  lost-none {F} {limit} G D (lost-inside begun s) w h = inside-none G D s w h
 
-  pub lost-full : (D : ℕ) → Lost tail ps came q behind → (ws r : List (List ℕ)) (m : ℕ) → behind ≡ ws ++ r → AllWhole ws → AllFit most ws
+  pub lost-full : {F : Family} {limit : ℕ} (G : Sound F limit) (D : ℕ) → Lost tail ps came q behind → (ws r : List (List ℕ)) (m : ℕ) → behind ≡ ws ++ r → AllWhole F ws → AllFit limit ws
       → D ≡ length q + m → length (endToEnd ws) ≤ m
-      → lastIn (length came) (length came + D) (came ++ replicate D true) (length came + length q + length (endToEnd ws)) r ≡ []
-      → finishes tail ps came D ≡ ws
-  lost-full D (lost-free s) ws r m e w f d h z =
+      → lastIn limit (length came) (length came + D) (came ++ replicate D true) (length came + length q + length (endToEnd ws)) r ≡ []
+      → finishes limit tail ps came D ≡ ws
+  lost-full {F} {limit} G D (lost-free s) ws r m e w f d h z =
       let a : ℕ = length came in
       let c : List Bool = came ++ replicate D true in
-      free-skips D s (a + D) c
-      ∙ behind-full came q behind D ws r m e w f d h ∙ ap (λ (l : List (List ℕ)). ws ++ l) z ∙ append-nil ws
-  lost-full D (lost-inside begun s) ws r m e w f d h z = gone-full D s ws r m refl e w f d h z
+      free-skips G D s (a + D) c
+      ∙ behind-full F (G .laws) limit came q behind D ws r m e w f d h ∙ ap (λ (l : List (List ℕ)). ws ++ l) z ∙ append-nil ws
+  lost-full {F} {limit} G D (lost-inside begun s) ws r m e w f d h z = gone-full G D s ws r m refl e w f d h z
 
   pub lost-still : (a b : List ℕ) (D : ℕ) (c : Bool) → Lost tail ps came q behind → q ≡ a ++ b → 1 ≤ length b → D ≡ length a → 1 ≤ D
       → Lost tail ps (came ++ replicate D c) b behind

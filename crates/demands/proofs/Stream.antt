@@ -11,8 +11,8 @@ use lib.ListN.{length, take, drop, length-append, length-take, length-drop, take
 use lib.Dec.{ltb}
 use borrow.Author.Tests.{lt-ltb, le-ltb}
 use Rattle.octets.specs.Pick.{pick}
-use Rattle.packet.specs.Theorems.{Whole, AllWhole, endToEnd}
-use Rattle.packet.proofs.Laws.{total-least}
+use Rattle.packet.specs.Family.{Family, Lawful, Whole, AllWhole}
+use Rattle.packet.specs.Theorems.{endToEnd}
 use Rattle.frame.specs.Opening.{noneStarts}
 use Rattle.walk.specs.Steps.{calledAt}
 use Rattle.demands.specs.Sender.{Mark, inner, marksOf, laidOut, octetsIn, firstStart}
@@ -75,16 +75,16 @@ unfolding laidOut
 laid-append [] b = refl
 laid-append (p ∷ a) b = ap (λ (l : List Mark). marksOf p ++ l) (laid-append a b) ∙ sym (append-assoc (marksOf p) (laidOut a) (laidOut b))
 
-pub whole-left : (a b : List (List ℕ)) → AllWhole (a ++ b) → AllWhole a
-whole-left [] b w = tt
-whole-left (p ∷ a) b w = (w .0, whole-left a b (w .1))
+pub whole-left : (F : Family) (a b : List (List ℕ)) → AllWhole F (a ++ b) → AllWhole F a
+whole-left F [] b w = tt
+whole-left F (p ∷ a) b w = (w .0, whole-left F a b (w .1))
 
-pub whole-right : (a b : List (List ℕ)) → AllWhole (a ++ b) → AllWhole b
-whole-right [] b w = w
-whole-right (p ∷ a) b w = whole-right a b (w .1)
+pub whole-right : (F : Family) (a b : List (List ℕ)) → AllWhole F (a ++ b) → AllWhole F b
+whole-right F [] b w = w
+whole-right F (p ∷ a) b w = whole-right F a b (w .1)
 
-pub whole-some : (p : List ℕ) → Whole p → 7 ≤ length p
-whole-some p w = total-least p (length p) w
+pub whole-some : (F : Family) (laws : Lawful F) (p : List ℕ) → Whole F p → 1 ≤ length p
+whole-some F laws p w = omega (arith, laws .total-least p (length p) w, laws .least-some)
 
 -- a begun packet: its first octets carry the start
 pub marks-split : (b l : List ℕ) → 1 ≤ length b → marksOf (b ++ l) ≡ marksOf b ++ inner l
@@ -107,17 +107,17 @@ first-at [] [] ps (suc D) i h l = absurd (omega arith)
 first-at [] (o ∷ p) ps (suc D) i h l = sym (add-zero i)
 first-at (o ∷ q) p ps (suc D) i h l = first-at q p ps D (suc i) h (omega arith) ∙ omega arith
 
-pub pointer-is : (q : List ℕ) (ps : List (List ℕ)) (D : ℕ) → AllWhole ps → D ≤ length (inner q ++ laidOut ps)
+pub pointer-is : (F : Family) (laws : Lawful F) (q : List ℕ) (ps : List (List ℕ)) (D : ℕ) → AllWhole F ps → D ≤ length (inner q ++ laidOut ps)
     → firstStart 0 (take D (inner q ++ laidOut ps)) ≡ calledAt D (length q)
 unfolding calledAt laidOut
-pointer-is q ps D w h = go (decLt (length q) D) ps w h
+pointer-is F laws q ps D w h = go (decLt (length q) D) ps w h
   where
-    go : Dec (length q < D) → (ps : List (List ℕ)) → AllWhole ps → D ≤ length (inner q ++ laidOut ps)
+    go : Dec (length q < D) → (ps : List (List ℕ)) → AllWhole F ps → D ≤ length (inner q ++ laidOut ps)
         → firstStart 0 (take D (inner q ++ laidOut ps)) ≡ pick (ltb (length q) D) (length q) noneStarts
     go (yes l) [] w h = absurd (omega (arith, length-append (inner q) [], length-inner q))
     go (yes l) (p ∷ ps) w h =
         rw (lt-ltb (length q) D l)
-        (first-at q p ps D 0 (omega (arith, whole-some p (w .0))) l ∙ zero-add (length q))
+        (first-at q p ps D 0 (omega (arith, whole-some F laws p (w .0))) l ∙ zero-add (length q))
     go (no n) ps w h = rw (le-ltb (length q) D (omega arith)) (first-none q (laidOut ps) D 0 (omega arith))
 
 -- how n octets of packets laid end to end end: exactly at a packet's end, or in the midst of one

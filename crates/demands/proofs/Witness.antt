@@ -13,8 +13,8 @@ use borrow.Author.Tests.{ltb-true, le-leb, ne-eqb, lt-leb}
 use Rattle.octets.specs.Laid.{laid}
 use Rattle.octets.proofs.Runs.{laid-nil}
 use Rattle.octets.specs.Numbers.{bitsAt, numberAt}
-use Rattle.packet.specs.Size.{most, sizeOf, idleOf}
-use Rattle.packet.specs.Theorems.{AllWhole}
+use Rattle.packet.specs.Family.{Octets, AllWhole}
+use Rattle.packet.specs.Size.{most, sizeOf, idleOf, source}
 use Rattle.frame.specs.Counts.{after}
 use Rattle.frame.specs.Header.{headerOf}
 use Rattle.frame.specs.Opening.{openOf, openFrom, openTable, frameOf, secondarySize, dataSize, wordOf, row1, row5, row6, row7, row8, row9, row10, row11, row12}
@@ -27,15 +27,15 @@ use Rattle.channel.specs.Store.{storeFits, outputFits}
 use Rattle.channel.specs.declared.state.Record.{Record}
 use Rattle.channel.proofs.Laws.{fresh-follows}
 use Rattle.channel.proofs.RuleLaws.{both}
-use Rattle.reader.specs.Reading.{answerOf, recordOf, storeOf, readTable, reportOf, channelOf, doneBy}
+use Rattle.reader.specs.Reading.{answerOver, recordOf, storeOf, readTableOver, reportOf, channelOf, doneBy}
 use Rattle.reader.specs.declared.reading.Answer.the-variants.{Accepted}
 use Rattle.reader.specs.declared.reading.Refusal.the-variants.{OfFrame, OutputLength}
 use Rattle.demands.specs.History.{Harmless, Allowed, Delivers, lastIn, allArrived, wanted, unwanted}
-use Rattle.demands.specs.Sender.{Mark, Octets, Sent, Sends, streamOf, inner, marksOf, laidOut, octetsIn, firstStart, between}
+use Rattle.demands.specs.Sender.{Mark, Sent, Sends, streamOf, inner, marksOf, laidOut, octetsIn, firstStart, between}
 use Rattle.demands.specs.Sender.Sends.{no-more, packets, idle}
 use Rattle.demands.specs.Witness.{ours, theirs, earlier, first, second, fourth, fifth, sixth, laidPackets, frame1, frame2, frame3, frame4, frame5, frame6, frame7, frames, elsewhere, history, broughtIn, outputsOf, dueTable, idleTable, Witness, Demand3-met}
 use Rattle.demands.proofs.Calls.{Fine, fine-after, others-keep, read}
-use Rattle.demands.proofs.Demand3.{demand3-fresh}
+use Rattle.demands.proofs.Demand3.{demand3-fresh, source-sound}
 
 -- octets by a test of each
 below : List ℕ → Bool
@@ -58,7 +58,7 @@ sent : (f : List ℕ) (count : ℕ) → below f ≡ true → openOf ours f ≡ O
     → Sent ours 3 count f (frameOf ours f)
 sent f count o e c s n = record { real = octets-by f o; opens = e; channel = c; not-private = s; counted = n }
 
-all-whole : AllWhole laidPackets
+all-whole : AllWhole source laidPackets
 unfolding sizeOf bitsAt numberAt
 all-whole = (refl, (refl, (refl, (refl, (refl, (refl, (refl, tt)))))))
 
@@ -77,50 +77,50 @@ sends-all =
 
 -- an arriving frame keeps record and store fine
 arrived : (f : List ℕ) (rec : Record) (store out : List ℕ) → below f ≡ true → openOf ours f ≡ Opened.Accepted (frameOf ours f)
-    → Fine rec store → most + mostLength ≤ length out → Fine (recordOf ours rec store out f) (storeOf ours rec store out f)
-arrived f rec store out o e k r = fine-after ours rec store out f (frameOf ours f) k r e (octets-by f o)
+    → Fine source most rec store → most + mostLength ≤ length out → Fine source most (recordOf ours rec store out f) (storeOf ours rec store out f)
+arrived f rec store out o e k r = fine-after source-sound ours rec store out f (frameOf ours f) k r e (octets-by f o)
 
 -- the calls in between: accepted on channel 5; refused by test 3; refused by test 8
-module _ (rec : Record) (store out : List ℕ) (k : Fine rec store) where
-  elsewhere-harmless : most + mostLength ≤ length out → Harmless 3 ours rec store out elsewhere
+module _ (rec : Record) (store out : List ℕ) (k : Fine source most rec store) where
+  elsewhere-harmless : most + mostLength ≤ length out → Harmless source most 3 ours rec store out elsewhere
   unfolding openFrom openTable frameOf firstCause row1 row5 row6 row7 row8 row9 row10 row11 row12 fitsOf headerOf secondarySize dataSize wordOf bitsAt numberAt reportOf
   elsewhere-harmless r =
       let x = frameOf ours elsewhere in
       inr (
-        reportOf x (channelOf x rec) (doneBy x rec store elsewhere),
-        (sym (read ours rec store out elsewhere x k r refl .answers), λ z. omega arith),
+        reportOf source x (channelOf x rec) (doneBy source most x rec store elsewhere),
+        (sym (read source-sound ours rec store out elsewhere x k r refl .answers), λ z. omega arith),
       )
 
-  short-harmless : length out < 6144 → Harmless 3 ours rec store out frame6
-  unfolding answerOf readTable firstCause row1 fitsOf storeFits outputFits
+  short-harmless : length out < 6144 → Harmless source most 3 ours rec store out frame6
+  unfolding answerOver readTableOver firstCause row1 fitsOf storeFits outputFits
   short-harmless h = inl (OutputLength, rw (k .store-whole, lt-leb 6144 (length out) h))
 
-  theirs-harmless : most + mostLength ≤ length out → Harmless 3 theirs rec store out frame6
-  unfolding answerOf readTable openTable firstCause row1 row5 row6 row7 row8 fitsOf headerOf bitsAt numberAt storeFits outputFits
+  theirs-harmless : most + mostLength ≤ length out → Harmless source most 3 theirs rec store out frame6
+  unfolding answerOver readTableOver openTable firstCause row1 row5 row6 row7 row8 fitsOf headerOf bitsAt numberAt storeFits outputFits
   theirs-harmless r = inl (OfFrame OtherSpacecraft, rw (k .store-whole, le-leb 6144 (length out) r, k .follows))
 
-is-due : (out : ℕ → List ℕ) (short store′ : List ℕ) → map wanted (broughtIn ours earlier laidPackets [] frames (history out short store′)) ≡ dueTable
+is-due : (out : ℕ → List ℕ) (short store′ : List ℕ) → map (wanted source) (broughtIn ours earlier laidPackets [] frames (history out short store′)) ≡ dueTable
 unfolding broughtIn frameOf headerOf secondarySize dataSize wordOf bitsAt numberAt lastIn allArrived wanted idleOf
 is-due out short store′ = refl
 
-is-idle : (out : ℕ → List ℕ) (short store′ : List ℕ) → map unwanted (broughtIn ours earlier laidPackets [] frames (history out short store′)) ≡ idleTable
+is-idle : (out : ℕ → List ℕ) (short store′ : List ℕ) → map (unwanted source) (broughtIn ours earlier laidPackets [] frames (history out short store′)) ≡ idleTable
 unfolding broughtIn frameOf headerOf secondarySize dataSize wordOf bitsAt numberAt lastIn allArrived unwanted idleOf
 is-idle out short store′ = refl
 
 module _ (store : List ℕ) (out : ℕ → List ℕ) (short store′ : List ℕ) (length-is : length store ≡ 32768) (octets : Octets store)
     (room : (i : ℕ) → 6144 ≤ length (out i)) (too-short : length short < 6144) (not-whole : length store′ ≡ 32768 → ⊥) where
-  is-allowed : Allowed ours 3 freshRecord store false 0 frames (history out short store′)
+  is-allowed : Allowed source most ours 3 freshRecord store false 0 frames (history out short store′)
   unfolding below openFrom openTable frameOf firstCause row1 row5 row6 row7 row8 row9 row10 row11 row12 fitsOf headerOf secondarySize dataSize wordOf bitsAt numberAt storeFits
   is-allowed =
-      let k₀ : Fine freshRecord store = record { eight = refl; store-whole = length-is; octets = octets; follows = fresh-follows most store } in
+      let k₀ : Fine source most freshRecord store = record { eight = refl; store-whole = length-is; octets = octets; follows = fresh-follows source most store } in
       let k₁ = arrived frame1 freshRecord store (out 1) refl refl k₀ (room 1) in
       let e = elsewhere-harmless _ _ (out 2) k₁ (room 2) in
-      let k₂ = others-keep 3 ours _ _ (out 2) elsewhere (omega arith) k₁ (octets-by elsewhere refl) e .fine in
+      let k₂ = others-keep source-sound 3 ours _ _ (out 2) elsewhere (omega arith) k₁ (octets-by elsewhere refl) e .fine in
       let k₃ = arrived frame2 _ _ (out 3) refl refl k₂ (room 3) in
       let k₄ = arrived frame3 _ _ (out 4) refl refl k₃ (room 4) in
       let k₅ = arrived frame4 _ _ (out 5) refl refl k₄ (room 5) in
       let s = short-harmless _ _ short k₅ too-short in
-      let k₆ = others-keep 3 ours _ _ short frame6 (omega arith) k₅ real6 s .fine in
+      let k₆ = others-keep source-sound 3 ours _ _ short frame6 (omega arith) k₅ real6 s .fine in
       let t = theirs-harmless _ _ (out 6) k₆ (room 6) in (
         room 1,
         λ z. omega arith,
@@ -143,7 +143,7 @@ module _ (store : List ℕ) (out : ℕ → List ℕ) (short store′ : List ℕ)
         ),
       )
 
-  delivers : Delivers ours earlier laidPackets freshRecord store [] frames (history out short store′)
+  delivers : Delivers source most ours earlier laidPackets freshRecord store [] frames (history out short store′)
   delivers =
       demand3-fresh ours 3 254 earlier laidPackets frames store (history out short store′) all-whole sends-all (omega arith) length-is octets
       is-allowed

@@ -21,7 +21,8 @@ use Rattle.writer.specs.Laying.{idlePacket, shortIdle, leftPart, runPart, place
 use Rattle.writer.specs.Writing.{frameWritten, laidField, laidPointer}
 use Rattle.writer.specs.declared.writing.Place.{Place}
 use Rattle.writer.proofs.Laws.{written-opens}
-use Rattle.demands.specs.Sender.{Octets, Sent}
+use Rattle.packet.specs.Family.{Octets}
+use Rattle.demands.specs.Sender.{Sent}
 use Rattle.demands.proofs.Places.{Writes, answers}
 
 -- octets

@@ -7,8 +7,9 @@ use Prim.Native.Nat.{ℕ, _+_, _-_, _*_, _^_, _≤_, _<_}
 use lib.Dec.{eqb, leb}
 use lib.ListN.{length, drop, replicate}
 use Rattle.octets.specs.Pick.{pick}
-use Rattle.packet.specs.Size.{most}
-use Rattle.packet.specs.Theorems.{AllWhole, endToEnd}
+use Rattle.packet.specs.Family.{Family, Octets, AllWhole}
+use Rattle.packet.specs.Size.{most, source}
+use Rattle.packet.specs.Theorems.{endToEnd}
 use Rattle.frame.specs.Closing.{channels, closeSize}
 use Rattle.frame.specs.SetUp.{fitsOf, mostLength}
 use Rattle.frame.specs.Theorems.{wordNumber}
@@ -19,12 +20,12 @@ use Rattle.channel.specs.declared.state.Record.{Record}
 use Rattle.reader.specs.Reading as read
 use Rattle.reader.specs.declared.reading.Answer.the-variants.{Accepted}
 use Rattle.reader.specs.declared.reading.Report.{Report}
+use Rattle.walk.specs.Theorems.{Sound}
 use Rattle.writer.specs.Laying.{idlePacket, mostLeft, placedPart, shortIdle}
 use Rattle.writer.specs.Writing as write
 use Rattle.writer.specs.declared.writing.Answer.the-variants.{Frame}
 use Rattle.writer.specs.declared.writing.Place.{Place}
 use Rattle.demands.specs.History.{arrives, Delivers, brought, carried, wanted}
-use Rattle.demands.specs.Sender.{Octets}
 
 -- a call of the writer: its control word, "as they please", and the output that it is lent
 pub record Writing : Type 0 where
@@ -64,47 +65,56 @@ fillers u v run p (c ∷ cs) =
     fillerFor n (D - n) ++ fillers u v run (write.nextOf u v p (c .word) run (c .out)) cs
 
 -- what a reader is lent for each frame, and that each output passes test 3
-abbrev pub Roomy : List (List ℕ) → Type 0
-Roomy [] = Unit {0}
-Roomy (o ∷ os) = (most + mostLength ≤ length o) × Roomy os
+abbrev pub Roomy : ℕ → List (List ℕ) → Type 0
+Roomy limit [] = Unit {0}
+Roomy limit (o ∷ os) = (limit + mostLength ≤ length o) × Roomy limit os
 
 -- call by call: gap and broken stay 0
-abbrev pub Smooth : SetUp → Record → List ℕ → List (List ℕ) → List (List ℕ) → Type 0
-Smooth u rec store [] outs = Unit {0}
-Smooth u rec store (f ∷ fs) [] = Unit {0}
-Smooth u rec store (f ∷ fs) (o ∷ os) =
-    ((a : Report) → read.answerOf u rec store o f ≡ Accepted a → (a .gap ≡ 0) × (a .broken ≡ 0))
-    × Smooth u (read.recordOf u rec store o f) (read.storeOf u rec store o f) fs os
+abbrev pub Smooth : Family → ℕ → SetUp → Record → List ℕ → List (List ℕ) → List (List ℕ) → Type 0
+Smooth F limit u rec store [] outs = Unit {0}
+Smooth F limit u rec store (f ∷ fs) [] = Unit {0}
+Smooth F limit u rec store (f ∷ fs) (o ∷ os) =
+    ((a : Report) → read.answerOver F limit u rec store o f ≡ Accepted a → (a .gap ≡ 0) × (a .broken ≡ 0))
+    × Smooth F limit u (read.recordOver F limit u rec store o f) (read.storeOver F limit u rec store o f) fs os
 
--- the packets of at most 4,096 octets
-unfoldable pub fitting : List (List ℕ) → List (List ℕ)
-fitting [] = []
-fitting (p ∷ ps) = pick (leb (length p) most) (p ∷ fitting ps) (fitting ps)
+-- the packets of at most `limit` octets
+unfoldable pub fitting : ℕ → List (List ℕ) → List (List ℕ)
+fitting limit [] = []
+fitting limit (p ∷ ps) = pick (leb (length p) limit) (p ∷ fitting limit ps) (fitting limit ps)
 
 -- what is due in all the calls, one after the other, where every frame arrives
-unfoldable pub dueInAll : SetUp → List ℕ → List (List ℕ) → List Bool → List (List ℕ) → List (List ℕ)
-dueInAll u tail ps came [] = []
-dueInAll u tail ps came (f ∷ fs) =
-    wanted (brought u tail ps came f) ++ dueInAll u tail ps (came ++ replicate (carried u f) true) fs
+unfoldable pub dueInAll : Family → ℕ → SetUp → List ℕ → List (List ℕ) → List Bool → List (List ℕ) → List (List ℕ)
+dueInAll F limit u tail ps came [] = []
+dueInAll F limit u tail ps came (f ∷ fs) =
+    wanted F (brought limit u tail ps came f) ++ dueInAll F limit u tail ps (came ++ replicate (carried u f) true) fs
 
 -- the frames of a run read back
-pub record ReadsBack (u : SetUp) (v : ℕ) (ps : List (List ℕ)) (p : Place) (cs : List Writing) (store : List ℕ) (outs : List (List ℕ)) : Type 0 where
+pub record ReadsBack (limit : ℕ) (u : SetUp) (v : ℕ) (ps : List (List ℕ)) (p : Place) (cs : List Writing) (store : List ℕ) (outs : List (List ℕ)) : Type 0 where
   -- no call of the writer is refused
   pub written : NoneRefused u v (endToEnd ps) p cs
   -- after at most left-over plus run-length calls the offset is at the run's end
   pub gets-there : p .«left_over» + length (endToEnd ps) ≤ length cs → placeAfter u v (endToEnd ps) p cs .offset ≡ length (endToEnd ps)
   -- call by call exactly the packets come out that are due, fillers counting as idle: nothing is lost, and the left-over is a tail
-  pub read-back : Delivers u (drop (7 - p .«left_over») shortIdle) (ps ++ fillers u v (endToEnd ps) p cs) freshRecord store []
+  pub read-back : Delivers source limit u (drop (7 - p .«left_over») shortIdle) (ps ++ fillers u v (endToEnd ps) p cs) freshRecord store []
       (frames u v (endToEnd ps) p cs) (map arrives outs)
-  pub smooth : Smooth u freshRecord store (frames u v (endToEnd ps) p cs) outs
+  pub smooth : Smooth source limit u freshRecord store (frames u v (endToEnd ps) p cs) outs
   -- so at the run's end: exactly all of them, in order
   pub all-out : placeAfter u v (endToEnd ps) p cs .offset ≡ length (endToEnd ps)
-      → dueInAll u (drop (7 - p .«left_over») shortIdle) (ps ++ fillers u v (endToEnd ps) p cs) [] (frames u v (endToEnd ps) p cs)
-      ≡ wanted (fitting ps)
+      → dueInAll source limit u (drop (7 - p .«left_over») shortIdle) (ps ++ fillers u v (endToEnd ps) p cs) [] (frames u v (endToEnd ps) p cs)
+      ≡ wanted source (fitting limit ps)
 
-abbrev pub Demand2 : Type 0
-Demand2 = (u : SetUp) (v : ℕ) (ps : List (List ℕ)) (p : Place) (cs : List Writing) (store : List ℕ) (outs : List (List ℕ))
-    → fitsOf u ≡ true → v < channels → AllWhole ps → Octets (endToEnd ps) → length (endToEnd ps) ≤ write.mostRun
+-- the claim, over the limit of a delivered packet: the writer writes source packets alone
+abbrev pub Demand2Over : ℕ → Type 0
+Demand2Over limit = (u : SetUp) (v : ℕ) (ps : List (List ℕ)) (p : Place) (cs : List Writing) (store : List ℕ) (outs : List (List ℕ))
+    → fitsOf u ≡ true → v < channels → AllWhole source ps → Octets (endToEnd ps) → length (endToEnd ps) ≤ write.mostRun
     → p .offset ≡ 0 → p .«left_over» ≤ mostLeft → p .master .0 < 256 → p .count .0 < 256 → Fair u cs
-    → length store ≡ most * channels → Octets store → length outs ≡ length cs → Roomy outs
-    → ReadsBack u v ps p cs store outs
+    → length store ≡ limit * channels → Octets store → length outs ≡ length cs → Roomy limit outs
+    → ReadsBack limit u v ps p cs store outs
+
+-- it holds for every limit that is wide enough
+abbrev pub Demand2-general : Type 0
+Demand2-general = (limit : ℕ) → Sound source limit → Demand2Over limit
+
+-- and so for packets of up to 4,096 octets
+abbrev pub Demand2 : Type 0
+Demand2 = Demand2Over most

@@ -2,19 +2,16 @@
 use mathlib.Core.Path.{_≡_}
 use mathlib.Core.Bool.{Bool, true, false}
 use mathlib.Core.List.{List, [], _∷_, _++_, map}
-use Prim.Native.Nat.{ℕ, suc, _≤_, _<_}
-use lib.ListN.{length, getD, take, drop}
+use Prim.Native.Nat.{ℕ, suc, _≤_}
+use lib.ListN.{length, take, drop}
 use Rattle.octets.specs.Pick.{pick}
+use Rattle.packet.specs.Family.{Octets}
 use Rattle.frame.specs.Counts.{after}
 use Rattle.frame.specs.Opening.{openOf, idleData, noneStarts}
 use Rattle.frame.specs.declared.opening.Frame.{Frame}
 use Rattle.frame.specs.declared.opening.Opened.{Opened}
 use Rattle.frame.specs.declared.set_up.SetUp.{SetUp}
 use Rattle.reader.specs.Reading.{fieldOf}
-
--- a list of octets: each below 256
-abbrev pub Octets : List ℕ → Type 0
-Octets l = (i : ℕ) → getD l i 0 < 256
 
 -- an octet that is sent, and whether it is the first of a packet
 pub record Mark : Type 0 where

@@ -5,14 +5,15 @@ use mathlib.Core.List.{List, [], _∷_, _++_, map}
 use Prim.Native.Nat.{ℕ, _≤_, _<_}
 use lib.ListN.{length, replicate}
 use Rattle.octets.specs.Laid.{laid}
-use Rattle.packet.specs.Theorems.{AllWhole}
+use Rattle.packet.specs.Family.{Octets, AllWhole}
+use Rattle.packet.specs.Size.{most, source}
 use Rattle.frame.specs.declared.set_up.SetUp.{SetUp}
 use Rattle.channel.specs.State.{freshRecord}
 use Rattle.channel.specs.declared.state.Record.{Record}
 use Rattle.reader.specs.Reading.{recordOf, storeOf, outputOf}
 use Rattle.demands.specs.History.{Event, Allowed, carried, brought, wanted, unwanted}
 use Rattle.demands.specs.History.Event.{lost, arrives, other}
-use Rattle.demands.specs.Sender.{Octets, Sends, streamOf}
+use Rattle.demands.specs.Sender.{Sends, streamOf}
 
 -- the set-up: frames of 20 octets of the spacecraft 171, without error control
 abbrev pub ours : SetUp
@@ -108,7 +109,7 @@ broughtIn u tail ps came fs [] = []
 broughtIn u tail ps came [] (e ∷ es) = []
 broughtIn u tail ps came (f ∷ fs) (lost ∷ es) = broughtIn u tail ps (came ++ replicate (carried u f) false) fs es
 broughtIn u tail ps came (f ∷ fs) (arrives out ∷ es) =
-    brought u tail ps came f ∷ broughtIn u tail ps (came ++ replicate (carried u f) true) fs es
+    brought most u tail ps came f ∷ broughtIn u tail ps (came ++ replicate (carried u f) true) fs es
 broughtIn u tail ps came (f ∷ fs) (other u′ kept s out g ∷ es) = broughtIn u tail ps came (f ∷ fs) es
 
 -- the output that each arrival leaves, with record and store kept between calls
@@ -133,12 +134,12 @@ idleTable = (filler ∷ []) ∷ [] ∷ [] ∷ [] ∷ [] ∷ [] ∷ []
 -- the claim over a store, the outputs, one that is too short and a store of another length
 pub record Witness (store : List ℕ) (out : ℕ → List ℕ) (short store′ : List ℕ) : Type 0 where
   -- the conditions of demand 3 are met
-  pub whole : AllWhole laidPackets
+  pub whole : AllWhole source laidPackets
   pub sends : Sends ours 3 254 (streamOf earlier laidPackets) frames
-  pub allowed : Allowed ours 3 freshRecord store false 0 frames (history out short store′)
+  pub allowed : Allowed source most ours 3 freshRecord store false 0 frames (history out short store′)
   -- the tables, by computation
-  pub due : map wanted (broughtIn ours earlier laidPackets [] frames (history out short store′)) ≡ dueTable
-  pub idle : map unwanted (broughtIn ours earlier laidPackets [] frames (history out short store′)) ≡ idleTable
+  pub due : map (wanted source) (broughtIn ours earlier laidPackets [] frames (history out short store′)) ≡ dueTable
+  pub idle : map (unwanted source) (broughtIn ours earlier laidPackets [] frames (history out short store′)) ≡ idleTable
   -- so these octets stand in the outputs
   pub hands : outputsOf ours freshRecord store frames (history out short store′)
       ≡ out 1 ∷ laid (out 3) 0 first ∷ laid (out 4) 0 second ∷ out 5 ∷ laid (out 8) 0 fourth ∷ laid (out 9) 0 (fifth ++ sixth) ∷ []

@@ -11,19 +11,20 @@ use lib.ListN.{length, take, length-append, take-append-drop}
 use lib.Seq.{drop-at, length-take-le}
 use Rattle.packet.specs.declared.source.Size.the-variants.{Total}
 use Rattle.packet.specs.Chain.{frontOf, chainOf, distanceOf}
-use Rattle.packet.specs.Size.{sizeOf}
-use Rattle.packet.specs.Theorems.{Whole, AllWhole, endToEnd, Chain-exactly, Distance-exactly, Distance-at-end}
-use Rattle.packet.proofs.Laws.{total-least, total-stays, last-tells}
+use Rattle.packet.specs.Size.{sizeOf, source}
+use Rattle.packet.specs.Family.{Whole, AllWhole}
+use Rattle.packet.specs.Theorems.{endToEnd, Chain-exactly, Distance-exactly, Distance-at-end}
+use Rattle.packet.proofs.Laws.{source-lawful}
 use Rattle.packet.proofs.ChainTurns.{front-whole, stands, behind, run-ind, chain-none, chain-more, chain-front, distance-here, distance-in, distance-past}
 
 -- packets laid end to end are a chain
-front-of-first : (p r : List ℕ) → Whole p → frontOf (p ++ r) ≡ length p
+front-of-first : (p r : List ℕ) → Whole source p → frontOf (p ++ r) ≡ length p
 front-of-first p r w =
-    sym (front-whole (p ++ r) (length p) (total-stays p r (length p) w) (simp length-append (omega arith)))
+    sym (front-whole (p ++ r) (length p) (source-lawful .total-stays p r (length p) w) (simp length-append (omega arith)))
 
-module _ (p r : List ℕ) (w : Whole p) where
+module _ (p r : List ℕ) (w : Whole source p) where
   front-some : 1 ≤ frontOf (p ++ r)
-  front-some = omega (arith, front-of-first p r w, total-least p (length p) w)
+  front-some = omega (arith, front-of-first p r w, source-lawful .total-least p (length p) w)
 
   behind-first : behind (p ++ r) ≡ r
   behind-first = drop-at p r (frontOf (p ++ r)) (sym (front-of-first p r w))
@@ -43,14 +44,14 @@ module _ (p r : List ℕ) (w : Whole p) where
           let z : length p + k - frontOf (p ++ r) ≡ k = omega (arith, f) in
           distance-past (p ++ r) (length p + k) front-some (omega (arith, f)) ∙ ap₂ distanceOf behind-first z
 
-chain-of : (ps : List (List ℕ)) → AllWhole ps → chainOf (endToEnd ps) ≡ true
+chain-of : (ps : List (List ℕ)) → AllWhole source ps → chainOf (endToEnd ps) ≡ true
 chain-of [] a = chain-none [] refl
 chain-of (p ∷ ps) a =
     chain-more (p ++ endToEnd ps) (front-some p (endToEnd ps) (a .0)) ∙ ap chainOf (behind-first p (endToEnd ps) (a .0)) ∙ chain-of ps (a .1)
 
 -- and a chain is packets laid end to end
 abbrev Packets : List ℕ → Type 0
-Packets d = (ps : List (List ℕ)) × ((endToEnd ps ≡ d) × AllWhole ps)
+Packets d = (ps : List (List ℕ)) × ((endToEnd ps ≡ d) × AllWhole source ps)
 
 nothing-there : (d : List ℕ) → length d ≡ 0 → [] ≡ d
 nothing-there [] h = refl
@@ -73,7 +74,7 @@ packets-more d h q =
       take n d ∷ q .0,
       (
         ap (λ (r : List ℕ). take n d ++ r) (q .1 .0) ∙ back,
-        (last-tells (take n d) (behind d) n told (omega arith) ∙ ap Total (sym l), q .1 .1),
+        (source-lawful .last-tells (take n d) (behind d) n told (omega arith) ∙ ap Total (sym l), q .1 .1),
       ),
     )
 
@@ -84,7 +85,7 @@ chain-exactly run = (
   λ q. ap chainOf (sym (q .1 .0)) ∙ chain-of (q .0) (q .1 .1),
 )
 
-distance-behind : (before after : List (List ℕ)) (k : ℕ) → AllWhole before
+distance-behind : (before after : List (List ℕ)) (k : ℕ) → AllWhole source before
     → distanceOf (endToEnd (before ++ after)) (length (endToEnd before) + k) ≡ distanceOf (endToEnd after) k
 distance-behind [] after k a = ap (distanceOf (endToEnd after)) (zero-add k)
 distance-behind (p ∷ ps) after k a =

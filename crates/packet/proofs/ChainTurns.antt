@@ -15,7 +15,7 @@ use Rattle.packet.specs.declared.source.Size.{Size}
 use Rattle.packet.specs.declared.source.Size.the-variants.{Wait, Foreign, Total}
 use Rattle.packet.specs.Chain.{wholeIn, frontOf, chainIn, chainOf, distanceIn, distanceOf}
 use Rattle.packet.specs.Size.{sizeOf}
-use Rattle.packet.proofs.Laws.{total-least}
+use Rattle.packet.proofs.Laws.{source-lawful}
 
 -- the front of a run, case by case
 module _ (d : List ℕ) where
@@ -56,7 +56,7 @@ pub stands : (d : List ℕ) → 1 ≤ frontOf d → Stands d (frontOf d)
 unfolding frontOf
 stands d h =
     let w = whole-in (sizeOf d) (length d) (frontOf d) refl h in
-    record { told = w .0; there = w .1; least = total-least d (frontOf d) (w .0) }
+    record { told = w .0; there = w .1; least = source-lawful .total-least d (frontOf d) (w .0) }
 
 -- the run behind the packet at the front
 abbrev pub behind : List ℕ → List ℕ

@@ -14,8 +14,9 @@ use Rattle.octets.specs.Numbers.{bitsAt, numberAt}
 use Rattle.octets.proofs.Laws.{number-two}
 use Rattle.packet.specs.declared.source.Size.{Size}
 use Rattle.packet.specs.declared.source.Size.the-variants.{Wait, Foreign, Total}
+use Rattle.packet.specs.Family.{Octets}
 use Rattle.packet.specs.Size.{versionOf, totalOf, sizeOf}
-use Rattle.packet.specs.Theorems.{InWords, Size-in-words, Empty-waits, Foreign-stays, Total-stays, Last-tells, First-tells, Total-least, Total-most, Six-tell}
+use Rattle.packet.specs.Theorems.{InWords, Size-in-words, Source-lawful, First-tells, Total-most, Six-tell}
 
 pub size-in-words : Size-in-words
 unfolding sizeOf
@@ -26,7 +27,7 @@ size-in-words p = record {
   six = λ h v. rw (ne-eqb (length p) 0 (λ e. omega arith), eq-eqb (versionOf p) 0 v, le-ltb (length p) 6 h);
 }
 
-pub empty-waits : Empty-waits
+empty-waits : sizeOf [] ≡ Wait
 empty-waits = size-in-words [] .none refl
 
 -- the four cases of a list of octets
@@ -79,7 +80,7 @@ foreign-total a b = absurd (let z : _≡_ {A = ℕ} 0 1 = cc in omega arith)
 total-same : {s : Size} {m n : ℕ} → s ≡ Total m → s ≡ Total n → m ≡ n
 total-same a b = cc
 
-pub foreign-stays : Foreign-stays
+foreign-stays : (p q : List ℕ) → sizeOf p ≡ Foreign → sizeOf (p ++ q) ≡ Foreign
 foreign-stays p q e = go (case-of p)
   where
     w : InWords p
@@ -92,7 +93,7 @@ foreign-stays p q e = go (case-of p)
     go (few h v l) = wait-foreign (w .few h v l) e
     go (six h v) = foreign-total e (w .six h v)
 
-pub total-stays : Total-stays
+total-stays : (p q : List ℕ) (n : ℕ) → sizeOf p ≡ Total n → sizeOf (p ++ q) ≡ Total n
 total-stays p q n e = go (case-of p)
   where
     w : InWords p
@@ -106,7 +107,7 @@ total-stays p q n e = go (case-of p)
         size-in-words (p ++ q) .six (omega (arith, longer p q)) (version-more p q (omega arith) ∙ v)
         ∙ ap Total (total-more p q h ∙ total-same (w .six h v) e)
 
-pub total-least : Total-least
+total-least : (p : List ℕ) (n : ℕ) → sizeOf p ≡ Total n → 7 ≤ n
 total-least p n e = go (case-of p)
   where
     w : InWords p
@@ -130,7 +131,7 @@ total-most p n a b e = go (case-of p)
     go (few h v l) = wait-total (w .few h v l) e
     go (six h v) = omega (arith, total-same (w .six h v) e, number-two p 4)
 
-pub last-tells : Last-tells
+last-tells : (p q : List ℕ) (n : ℕ) → sizeOf (p ++ q) ≡ Total n → n ≤ length p → sizeOf p ≡ Total n
 last-tells p q n e h = go (case-of p)
   where
     l : 7 ≤ n
@@ -143,6 +144,44 @@ last-tells p q n e h = go (case-of p)
     go (six z v) =
         let t : sizeOf p ≡ Total (totalOf p) = size-in-words p .six z v in
         t ∙ ap Total (total-same (total-stays p q (totalOf p) t) e)
+
+-- what waits has fewer than six octets, and what tells a total has six
+header-tells : (p : List ℕ) → sizeOf p ≡ Wait → length p < 6
+header-tells p e = go (case-of p)
+  where
+    w : InWords p
+    w = size-in-words p
+
+    go : Case p → length p < 6
+    go (none h) = omega arith
+    go (other h v) = wait-foreign e (w .other h v)
+    go (few h v l) = l
+    go (six h v) = wait-total e (w .six h v)
+
+skip-most : (p : List ℕ) (n : ℕ) → Octets p → sizeOf p ≡ Total n → n ≤ length p + 65536
+skip-most p n o e = go (case-of p)
+  where
+    w : InWords p
+    w = size-in-words p
+
+    go : Case p → n ≤ length p + 65536
+    go (none h) = wait-total (w .none h) e
+    go (other h v) = foreign-total (w .other h v) e
+    go (few h v l) = wait-total (w .few h v l) e
+    go (six h v) = omega (arith, total-most p n (o 4) (o 5) e)
+
+pub source-lawful : Source-lawful
+source-lawful =
+    record {
+      empty-waits = empty-waits;
+      foreign-stays = foreign-stays;
+      total-stays = total-stays;
+      last-tells = last-tells;
+      header-tells = header-tells;
+      total-least = total-least;
+      least-some = omega arith;
+      skip-most = skip-most;
+    }
 
 pub first-tells : First-tells
 first-tells p q e h = go (case-of p)

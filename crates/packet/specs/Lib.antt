@@ -1,4 +1,5 @@
 pub mod Chain
+pub mod Family
 pub mod Header
 pub mod Size
 pub mod Theorems

@@ -1,11 +1,12 @@
 -- What the octets seen so far of a packet tell: the one definition through which everything above learns a packet's length.
 use mathlib.Core.Bool.{Bool, not, _&&_}
 use mathlib.Core.List.{List}
-use Prim.Native.Nat.{ℕ, _+_}
+use Prim.Native.Nat.{ℕ, _+_, _-_}
 use lib.Dec.{eqb, ltb, leb}
 use lib.ListN.{length}
 use Rattle.octets.specs.Numbers.{bitsAt, numberAt}
 use Rattle.octets.specs.Pick.{pick}
+use Rattle.packet.specs.Family.{Family}
 use Rattle.packet.specs.declared.source.Size.{Size}
 use Rattle.packet.specs.declared.source.Size.the-variants.{Wait, Foreign, Total}
 
@@ -40,3 +41,7 @@ sizeOf p =
     pick (eqb (length p) 0) Wait
     (pick (not (eqb (versionOf p) 0)) Foreign
     (pick (ltb (length p) 6) Wait (Total (totalOf p))))
+
+-- source packets as a family: six octets tell the total, so that at most 65,536 are to come then
+abbrev pub source : Family
+source = record { size = sizeOf; idle = idleOf; least = least; header = 6; mostSkip = formatMost - 6 }

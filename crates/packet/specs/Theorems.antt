@@ -9,31 +9,18 @@ use lib.ListN.{length, getD, take}
 use Rattle.packet.specs.declared.source.Size.{Size}
 use Rattle.packet.specs.declared.source.Size.the-variants.{Wait, Foreign, Total}
 use Rattle.packet.specs.Chain.{chainOf, distanceOf}
-use Rattle.packet.specs.Size.{least, formatMost, versionOf, totalOf, sizeOf}
+use Rattle.packet.specs.Family.{Lawful, Whole, AllWhole}
+use Rattle.packet.specs.Size.{formatMost, versionOf, totalOf, sizeOf, source}
 
--- nothing seen yet tells nothing
-abbrev pub Empty-waits : Type 0
-Empty-waits = sizeOf [] ≡ Wait
-
--- what was told is never changed by more octets
-abbrev pub Foreign-stays : Type 0
-Foreign-stays = (p q : List ℕ) → sizeOf p ≡ Foreign → sizeOf (p ++ q) ≡ Foreign
-
-abbrev pub Total-stays : Type 0
-Total-stays = (p q : List ℕ) (n : ℕ) → sizeOf p ≡ Total n → sizeOf (p ++ q) ≡ Total n
-
--- a packet's last octet at the latest tells its total
-abbrev pub Last-tells : Type 0
-Last-tells = (p q : List ℕ) (n : ℕ) → sizeOf (p ++ q) ≡ Total n → n ≤ length p → sizeOf p ≡ Total n
+-- source packets keep the laws of a packet family
+abbrev pub Source-lawful : Type 0
+Source-lawful = Lawful source
 
 -- the first octet at the latest tells a foreign packet
 abbrev pub First-tells : Type 0
 First-tells = (p q : List ℕ) → sizeOf (p ++ q) ≡ Foreign → 1 ≤ length p → sizeOf p ≡ Foreign
 
--- a total is at least that of the least packet, and at most the format's
-abbrev pub Total-least : Type 0
-Total-least = (p : List ℕ) (n : ℕ) → sizeOf p ≡ Total n → least ≤ n
-
+-- a total is at most the format's
 abbrev pub Total-most : Type 0
 Total-most = (p : List ℕ) (n : ℕ) → getD p 4 0 < 256 → getD p 5 0 < 256 → sizeOf p ≡ Total n → n ≤ formatMost
 
@@ -51,28 +38,21 @@ pub record InWords (p : List ℕ) : Type 0 where
 abbrev pub Size-in-words : Type 0
 Size-in-words = (p : List ℕ) → InWords p
 
--- packets, each whole by its own header, and their octets laid end to end
-abbrev pub Whole : List ℕ → Type 0
-Whole p = sizeOf p ≡ Total (length p)
-
-abbrev pub AllWhole : List (List ℕ) → Type 0
-AllWhole [] = Unit {0}
-AllWhole (p ∷ ps) = Whole p × AllWhole ps
-
+-- packets' octets laid end to end
 abbrev pub endToEnd : List (List ℕ) → List ℕ
 endToEnd [] = []
 endToEnd (p ∷ ps) = p ++ endToEnd ps
 
 -- a run passes the chain test exactly when it is packets laid end to end, each whole by its own header
 abbrev pub Chain-exactly : Type 0
-Chain-exactly = (run : List ℕ) → chainOf run ≡ true ↔ ((ps : List (List ℕ)) × ((endToEnd ps ≡ run) × AllWhole ps))
+Chain-exactly = (run : List ℕ) → chainOf run ≡ true ↔ ((ps : List (List ℕ)) × ((endToEnd ps ≡ run) × AllWhole source ps))
 
 -- from a packet's start no octet is left to the next boundary, and from inside a packet those of its octets that are left
 abbrev pub Distance-exactly : Type 0
-Distance-exactly = (before : List (List ℕ)) (p : List ℕ) (behind : List (List ℕ)) → AllWhole before → Whole p → AllWhole behind
+Distance-exactly = (before : List (List ℕ)) (p : List ℕ) (behind : List (List ℕ)) → AllWhole source before → Whole source p → AllWhole source behind
     → (distanceOf (endToEnd (before ++ p ∷ behind)) (length (endToEnd before)) ≡ 0)
     × ((i : ℕ) → 1 ≤ i → i < length p
     → distanceOf (endToEnd (before ++ p ∷ behind)) (length (endToEnd before) + i) ≡ length p - i)
 
 abbrev pub Distance-at-end : Type 0
-Distance-at-end = (ps : List (List ℕ)) → AllWhole ps → distanceOf (endToEnd ps) (length (endToEnd ps)) ≡ 0
+Distance-at-end = (ps : List (List ℕ)) → AllWhole source ps → distanceOf (endToEnd ps) (length (endToEnd ps)) ≡ 0

@@ -8,6 +8,7 @@ use native.Mathlib.Omega.{arith}
 use lib.Dec.{eqb}
 use lib.ListN.{getD, replicate}
 use Rattle.octets.specs.Pick.{pick}
+use Rattle.packet.specs.Family.{Family, Octets}
 use Rattle.frame.specs.Opening.{frameOf}
 use Rattle.frame.specs.declared.opening.Refusal.the-variants.{SetUpRange, FrameLength, FrameCheck, FrameVersion, OtherSpacecraft, SecondaryHeader, NoData, OrderOrSegment, PointerPlace}
 use Rattle.frame.specs.declared.set_up.SetUp.{SetUp}
@@ -20,12 +21,11 @@ use Rattle.reader.specs.declared.reading.Refusal.{Refusal}
 use Rattle.reader.specs.declared.reading.Refusal.the-variants.{OfFrame, StoreLength, OutputLength, BrokenRecord}
 use Rattle.reader.specs.declared.reading.Report.{Report}
 use Rattle.reader.specs.Answers.{numberOf, valuesOf}
-use Rattle.reader.specs.Reading.{readTable, channelOf, doneBy, reportOf, answerOf, storeOf, Ready}
-use Rattle.walk.specs.Theorems.{Octets, Walk-few}
+use Rattle.reader.specs.Reading.{readTableOver, channelOf, doneBy, reportOf, answerOver, storeOver, Ready}
 use Rattle.reader.specs.Theorems.{Number-exactly, Refused-zero, Accepted-exactly, Refused-untouched, Accepted-keeps, Others-apart, Few-enough}
+use Rattle.walk.specs.Theorems.{Sound}
 use Rattle.reader.proofs.AfterLaws.{store-kept, output-kept, channels-kept, octets-kept, other-part, other-channel, record-kept, done-few}
 use Rattle.reader.proofs.ReadLaws.{LeftBy, found-none, found-cause, leaves, ready, refuses}
-use Rattle.walk.proofs.WalkLaws.{walk-count}
 
 -- a number tells its refusal: the reader's own numbers are none of the frame part's
 abbrev own : ℕ → Refusal → Refusal
@@ -60,77 +60,75 @@ number-one (OfFrame s) (OfFrame r) e = ap OfFrame (frame-number-one s r e)
 abbrev first-value : Answer → ℕ
 first-value a = getD (valuesOf a) 0 0
 
-pub number-exactly : Number-exactly
-unfolding answerOf valuesOf
-number-exactly u rec store out f r =
-    rw (made first-value Refused _ (readTable u rec store out f))
-    (first-exactly numberOf 0 number-one (λ r e. omega (arith, case-own r .1)) (readTable u rec store out f) r)
+pub number-exactly : (F : Family) (limit : ℕ) → Number-exactly F limit
+unfolding answerOver valuesOf
+number-exactly F limit u rec store out f r =
+    rw (made first-value Refused _ (readTableOver F limit u rec store out f))
+    (first-exactly numberOf 0 number-one (λ r e. omega (arith, case-own r .1)) (readTableOver F limit u rec store out f) r)
 
-pub accepted-exactly : Accepted-exactly
-accepted-exactly u rec store out f =
-    (λ h. found-none u rec store out f (h .0) (h .1), λ n. (_, sym (leaves u rec store out f n .answers)))
+pub accepted-exactly : (F : Family) (limit : ℕ) → Accepted-exactly F limit
+accepted-exactly F limit u rec store out f =
+    (λ h. found-none F limit u rec store out f (h .0) (h .1), λ n. (_, sym (leaves F limit u rec store out f n .answers)))
 
-pub refused-untouched : Refused-untouched
-refused-untouched u rec store out f r e =
-    let l = refuses u rec store out f r _ (found-cause u rec store out f r e) refl in
+pub refused-untouched : (F : Family) (limit : ℕ) → Refused-untouched F limit
+refused-untouched F limit u rec store out f r e =
+    let l = refuses F limit u rec store out f r _ (found-cause F limit u rec store out f r e) refl in
     record { same-record = sym (l .record-left); same-store = sym (l .store-left); same-output = sym (l .output-left) }
 
-pub walk-few : Walk-few
-walk-few limit d = omega (arith, walk-count limit d)
-
 -- a call that was accepted: what its steps could rely on, what they left, and its answer
-module _ (u : SetUp) (rec : Record) (store out f : List ℕ) (a : Report) (e : answerOf u rec store out f ≡ Accepted a) where
-  relied : Ready rec (frameOf u f) f store out
-  relied = ready u rec store out f (frameOf u f) (refl, found-none u rec store out f a e)
+module _ (F : Family) (limit : ℕ) (u : SetUp) (rec : Record) (store out f : List ℕ) (a : Report) (e : answerOver F limit u rec store out f ≡ Accepted a) where
+  relied : Ready F limit rec (frameOf u f) f store out
+  relied = ready F limit u rec store out f (frameOf u f) (refl, found-none F limit u rec store out f a e)
 
-  left : LeftBy u rec store out f
-  left = leaves u rec store out f (found-none u rec store out f a e)
+  left : LeftBy F limit u rec store out f
+  left = leaves F limit u rec store out f (found-none F limit u rec store out f a e)
 
-  told : reportOf (frameOf u f) (channelOf (frameOf u f) rec) (doneBy (frameOf u f) rec store f) ≡ a
+  told : reportOf F (frameOf u f) (channelOf (frameOf u f) rec) (doneBy F limit (frameOf u f) rec store f) ≡ a
   told = cc (left .answers)
 
-pub accepted-keeps : Accepted-keeps
-accepted-keeps u rec store out f a os of eight e =
+pub accepted-keeps : (F : Family) (limit : ℕ) → Accepted-keeps F limit
+accepted-keeps F limit sound u rec store out f a os of eight e =
     let x = frameOf u f in
-    let r = relied u rec store out f a e in
-    let l = left u rec store out f a e in
+    let r = relied F limit u rec store out f a e in
+    let l = left F limit u rec store out f a e in
     record {
-      follows = rw (← (l .store-left), ← (l .record-left)) (record-kept rec x f store out r os of eight);
-      eight = rw (← (l .record-left)) (channels-kept rec x f store out r ∙ eight);
-      store-length = rw (← (l .store-left)) (store-kept rec x f store out r);
-      output-length = rw (← (l .output-left)) (output-kept rec x f store out r);
+      follows = rw (← (l .store-left), ← (l .record-left)) (record-kept F (sound .laws) limit (sound .wide) rec x f store out r os of eight);
+      eight = rw (← (l .record-left)) (channels-kept F (sound .laws) limit (sound .wide) rec x f store out r ∙ eight);
+      store-length = rw (← (l .store-left)) (store-kept F (sound .laws) limit (sound .wide) rec x f store out r);
+      output-length = rw (← (l .output-left)) (output-kept F (sound .laws) limit (sound .wide) rec x f store out r);
     }
 
 -- and the store stays a store of octets, whatever the answer
-pub store-octets : (u : SetUp) (rec : Record) (store out f : List ℕ) → Octets store → Octets f → Octets (storeOf u rec store out f)
-store-octets u rec store out f os of = go (answerOf u rec store out f) refl
+pub store-octets : (F : Family) (limit : ℕ) → Sound F limit → (u : SetUp) (rec : Record) (store out f : List ℕ) → Octets store → Octets f
+    → Octets (storeOver F limit u rec store out f)
+store-octets F limit sound u rec store out f os of = go (answerOver F limit u rec store out f) refl
   where
-    go : (a : Answer) → answerOf u rec store out f ≡ a → Octets (storeOf u rec store out f)
-    go (Refused r) e = rw (refused-untouched u rec store out f r e .same-store) os
+    go : (a : Answer) → answerOver F limit u rec store out f ≡ a → Octets (storeOver F limit u rec store out f)
+    go (Refused r) e = rw (refused-untouched F limit u rec store out f r e .same-store) os
     go (Accepted a) e =
-        rw (← (left u rec store out f a e .store-left)) (octets-kept rec (frameOf u f) f store out (relied u rec store out f a e) os of)
+        rw (← (left F limit u rec store out f a e .store-left)) (octets-kept F (sound .laws) limit (sound .wide) rec (frameOf u f) f store out (relied F limit u rec store out f a e) os of)
 
-pub others-apart : Others-apart
+pub others-apart : (F : Family) (limit : ℕ) → Others-apart F limit
 unfolding reportOf
-others-apart u rec store out f a w e h n =
+others-apart F limit sound u rec store out f a w e h n =
     let x = frameOf u f in
-    let r = relied u rec store out f a e in
-    let l = left u rec store out f a e in
-    let other : w ≡ x .header .channel → ⊥ = λ q. n (q ∙ ap (λ (b : Report). b .header .channel) (told u rec store out f a e)) in
+    let r = relied F limit u rec store out f a e in
+    let l = left F limit u rec store out f a e in
+    let other : w ≡ x .header .channel → ⊥ = λ q. n (q ∙ ap (λ (b : Report). b .header .channel) (told F limit u rec store out f a e)) in
     record {
-      channel-kept = rw (← (l .record-left)) (other-channel rec x f store out r w other);
-      part-kept = rw (← (l .store-left)) (other-part rec x f store out r w h other);
+      channel-kept = rw (← (l .record-left)) (other-channel F (sound .laws) limit (sound .wide) rec x f store out r w other);
+      part-kept = rw (← (l .store-left)) (other-part F (sound .laws) limit (sound .wide) rec x f store out r w h other);
     }
 
-pub few-enough : Few-enough
-few-enough u rec store out f a e =
-    rw (told u rec store out f a e) at (done-few rec (frameOf u f) f store out (relied u rec store out f a e))
+pub few-enough : (F : Family) (limit : ℕ) → Few-enough F limit
+few-enough F limit laws u rec store out f a e =
+    rw (told F limit u rec store out f a e) at (done-few F laws limit rec (frameOf u f) f store out (relied F limit u rec store out f a e))
 
 zeros-all : (n i : ℕ) → _≡_ {A = ℕ} (getD (replicate n 0) i 0) 0
 zeros-all zero i = refl
 zeros-all (suc n) zero = refl
 zeros-all (suc n) (suc i) = zeros-all n i
 
-pub refused-zero : Refused-zero
+pub refused-zero : (F : Family) (limit : ℕ) → Refused-zero F limit
 unfolding valuesOf
-refused-zero u rec store out f r i e = rw (e, add-one) (zeros-all 19 i)
+refused-zero F limit u rec store out f r i e = rw (e, add-one) (zeros-all 19 i)

@@ -8,7 +8,7 @@ use Prim.Native.Nat.{ℕ, _+_, _*_}
 use native.Mathlib.Omega.{arith}
 use lib.ListN.{length, getD, drop}
 use borrow.Author.Tests.{not-false, eqb-true, leb-true, eq-eqb, ne-eqb}
-use Rattle.packet.specs.Size.{most}
+use Rattle.packet.specs.Family.{Family}
 use Rattle.frame.specs.Answers.{valuesOf as frameValuesOf}
 use Rattle.frame.specs.Opening.{row1, openTable, openOf, frameOf, idleData}
 use Rattle.frame.specs.SetUp.{fitsOf}
@@ -31,7 +31,7 @@ use Rattle.reader.specs.declared.reading.Refusal.{Refusal}
 use Rattle.reader.specs.declared.reading.Refusal.the-variants.{OfFrame, StoreLength, OutputLength, BrokenRecord}
 use Rattle.reader.specs.declared.reading.Report.{Report}
 use Rattle.reader.specs.declared.reading.Kind.the-variants.{Packets, Idle, Private}
-use Rattle.reader.specs.Reading.{kindOf, ofFrame, readTable, channelOf, doneBy, reportOf, recordAfter, storeAfter, outputAfter, answerOf, recordOf, storeOf, outputOf, Read, ReadBy, Ready}
+use Rattle.reader.specs.Reading.{kindOf, ofFrame, readTableOver, channelOf, doneBy, reportOf, recordAfter, storeAfter, outputAfter, answerOver, recordOver, storeOver, outputOver, ReadOver, ReadBy, Ready}
 
 -- the kind of a frame
 module _ (h : Header) where
@@ -71,38 +71,38 @@ first-open u f r a e = go (frame-number-exactly u f r .0 (ap (λ (o : Opened). g
     go (inr h) = h .1
 
 -- test 2 in numbers
-pub whole-store : (n : ℕ) → storeFits most n ≡ true → n ≡ most * 8
+pub whole-store : (limit n : ℕ) → storeFits limit n ≡ true → n ≡ limit * 8
 unfolding storeFits
-whole-store n e = eqb-true n (most * 8) e
+whole-store limit n e = eqb-true n (limit * 8) e
 
 -- the first cause, row by row, as the code tests them
-module _ (u : SetUp) (rec : Record) (store out f : List ℕ) where
-  pub at-set-up : fitsOf u ≡ false → First (readTable u rec store out f) (OfFrame SetUpRange)
-  unfolding readTable row1
+module _ (F : Family) (limit : ℕ) (u : SetUp) (rec : Record) (store out f : List ℕ) where
+  pub at-set-up : fitsOf u ≡ false → First (readTableOver F limit u rec store out f) (OfFrame SetUpRange)
+  unfolding readTableOver row1
   at-set-up a = inl (refl, rw a)
 
   module _ (a : fitsOf u ≡ true) where
-    pub at-store : storeFits most (length store) ≡ false → First (readTable u rec store out f) StoreLength
-    unfolding readTable row1
+    pub at-store : storeFits limit (length store) ≡ false → First (readTableOver F limit u rec store out f) StoreLength
+    unfolding readTableOver row1
     at-store b = inr (rw a, inl (refl, rw b))
 
-    module _ (b : storeFits most (length store) ≡ true) where
-      pub at-output : outputFits most (length out) ≡ false → First (readTable u rec store out f) OutputLength
-      unfolding readTable row1
+    module _ (b : storeFits limit (length store) ≡ true) where
+      pub at-output : outputFits limit (length out) ≡ false → First (readTableOver F limit u rec store out f) OutputLength
+      unfolding readTableOver row1
       at-output c = inr (rw a, inr (rw b, inl (refl, rw c)))
 
-      module _ (c : outputFits most (length out) ≡ true) where
-        pub at-record : recordFollows most store rec ≡ false → First (readTable u rec store out f) BrokenRecord
-        unfolding readTable row1
+      module _ (c : outputFits limit (length out) ≡ true) where
+        pub at-record : recordFollows F limit store rec ≡ false → First (readTableOver F limit u rec store out f) BrokenRecord
+        unfolding readTableOver row1
         at-record d = inr (rw a, inr (rw b, inr (rw c, inl (refl, rw d))))
 
-        module _ (d : recordFollows most store rec ≡ true) where
-          pub at-frame : (r : FrameRefusal) → openOf u f ≡ Opened.Refused r → First (readTable u rec store out f) (OfFrame r)
-          unfolding readTable row1
+        module _ (d : recordFollows F limit store rec ≡ true) where
+          pub at-frame : (r : FrameRefusal) → openOf u f ≡ Opened.Refused r → First (readTableOver F limit u rec store out f) (OfFrame r)
+          unfolding readTableOver row1
           at-frame r e = inr (rw a, inr (rw b, inr (rw c, inr (rw d, first-up (drop 1 (openTable u f)) r (first-open u f r a e)))))
 
-          pub at-none : (x : Frame) → openOf u f ≡ Opened.Accepted x → (x ≡ frameOf u f) × None (readTable u rec store out f)
-          unfolding readTable row1 openTable
+          pub at-none : (x : Frame) → openOf u f ≡ Opened.Accepted x → (x ≡ frameOf u f) × None (readTableOver F limit u rec store out f)
+          unfolding readTableOver row1 openTable
           at-none x e =
               let o = frame-accepted-exactly u f x .0 e in
               (o .0, (rw a, (rw b, (rw c, (rw d, none-up (drop 1 (openTable u f)) (o .1 .1))))))
@@ -112,63 +112,63 @@ accepted-refused : (a : Report) (r : Refusal) → Accepted a ≡ Refused r → �
 accepted-refused a r q = let z : _≡_ {A = ℕ} 0 1 = cc in omega arith
 
 -- what steps 1 to 5 make of a frame is what the call answers and leaves
-abbrev pub LeftBy : SetUp → Record → List ℕ → List ℕ → List ℕ → Type 0
-LeftBy u rec store out f =
+abbrev pub LeftBy : Family → ℕ → SetUp → Record → List ℕ → List ℕ → List ℕ → Type 0
+LeftBy F limit u rec store out f =
     let x = frameOf u f in
-    let d = doneBy x rec store f in
-    Read u rec store out f (Accepted (reportOf x (channelOf x rec) d)) (recordAfter x rec d) (storeAfter x store d) (outputAfter out d)
+    let d = doneBy F limit x rec store f in
+    ReadOver F limit u rec store out f (Accepted (reportOf F x (channelOf x rec) d)) (recordAfter x rec d) (storeAfter limit x store d) (outputAfter F out d)
 
-module _ (u : SetUp) (rec : Record) (store out f : List ℕ) where
+module _ (F : Family) (limit : ℕ) (u : SetUp) (rec : Record) (store out f : List ℕ) where
   -- without a cause the frame opens
-  pub opened : None (readTable u rec store out f) → openOf u f ≡ Opened.Accepted (frameOf u f)
-  unfolding readTable openTable
+  pub opened : None (readTableOver F limit u rec store out f) → openOf u f ≡ Opened.Accepted (frameOf u f)
+  unfolding readTableOver openTable
   opened n = frame-accepted-exactly u f (frameOf u f) .1 (refl, (n .0, none-down (drop 1 (openTable u f)) (n .1 .1 .1 .1)))
 
   -- a call that is refused found a cause, and one that is accepted found none
-  pub found-cause : (r : Refusal) → answerOf u rec store out f ≡ Refused r → First (readTable u rec store out f) r
-  unfolding answerOf
-  found-cause r e = first-exactly Refused _ (λ s r q. cc) (λ r. accepted-refused _ r) (readTable u rec store out f) r .0 e
+  pub found-cause : (r : Refusal) → answerOver F limit u rec store out f ≡ Refused r → First (readTableOver F limit u rec store out f) r
+  unfolding answerOver
+  found-cause r e = first-exactly Refused _ (λ s r q. cc) (λ r. accepted-refused _ r) (readTableOver F limit u rec store out f) r .0 e
 
-  pub found-none : (a : Report) → answerOf u rec store out f ≡ Accepted a → None (readTable u rec store out f)
-  unfolding answerOf
-  found-none a e = none-exactly Refused _ (Accepted a) (λ r q. accepted-refused a r (sym q)) (readTable u rec store out f) .0 e .1
+  pub found-none : (a : Report) → answerOver F limit u rec store out f ≡ Accepted a → None (readTableOver F limit u rec store out f)
+  unfolding answerOver
+  found-none a e = none-exactly Refused _ (Accepted a) (λ r q. accepted-refused a r (sym q)) (readTableOver F limit u rec store out f) .0 e .1
 
   -- a refusal answers its case, and leaves record, store and output
-  pub refuses : (r : Refusal) (o : Outcome) → First (readTable u rec store out f) r → o ≡ record { answer = Refused r; after = rec }
-      → Read u rec store out f (o .answer) (o .after) store out
-  unfolding answerOf recordOf storeOf outputOf
+  pub refuses : (r : Refusal) (o : Outcome) → First (readTableOver F limit u rec store out f) r → o ≡ record { answer = Refused r; after = rec }
+      → ReadOver F limit u rec store out f (o .answer) (o .after) store out
+  unfolding answerOver recordOver storeOver outputOver
   refuses r o h e =
       record {
-        answers = ap (λ (p : Outcome). p .answer) e ∙ sym (first-gives Refused _ (readTable u rec store out f) r h);
-        record-left = ap (λ (p : Outcome). p .after) e ∙ sym (first-gives (λ _. rec) _ (readTable u rec store out f) r h);
-        store-left = sym (first-gives (λ _. store) _ (readTable u rec store out f) r h);
-        output-left = sym (first-gives (λ _. out) _ (readTable u rec store out f) r h);
+        answers = ap (λ (p : Outcome). p .answer) e ∙ sym (first-gives Refused _ (readTableOver F limit u rec store out f) r h);
+        record-left = ap (λ (p : Outcome). p .after) e ∙ sym (first-gives (λ _. rec) _ (readTableOver F limit u rec store out f) r h);
+        store-left = sym (first-gives (λ _. store) _ (readTableOver F limit u rec store out f) r h);
+        output-left = sym (first-gives (λ _. out) _ (readTableOver F limit u rec store out f) r h);
       }
 
   -- a call without a cause is what steps 1 to 5 make of it
-  module _ (x : Frame) (n : (x ≡ frameOf u f) × None (readTable u rec store out f)) where
-    pub accepts : (answer : Answer) (rec′ : Record) (store′ out′ : List ℕ) → ReadBy x rec store out f answer rec′ store′ out′
-        → Read u rec store out f answer rec′ store′ out′
-    unfolding answerOf recordOf storeOf outputOf
+  module _ (x : Frame) (n : (x ≡ frameOf u f) × None (readTableOver F limit u rec store out f)) where
+    pub accepts : (answer : Answer) (rec′ : Record) (store′ out′ : List ℕ) → ReadBy F limit x rec store out f answer rec′ store′ out′
+        → ReadOver F limit u rec store out f answer rec′ store′ out′
+    unfolding answerOver recordOver storeOver outputOver
     accepts answer rec′ store′ out′ b =
         let t = rw (n .0) at b in
         record {
-          answers = t .answers ∙ sym (none-gives Refused _ (readTable u rec store out f) (n .1));
-          record-left = t .record-left ∙ sym (none-gives (λ _. rec) _ (readTable u rec store out f) (n .1));
-          store-left = t .store-left ∙ sym (none-gives (λ _. store) _ (readTable u rec store out f) (n .1));
-          output-left = t .output-left ∙ sym (none-gives (λ _. out) _ (readTable u rec store out f) (n .1));
+          answers = t .answers ∙ sym (none-gives Refused _ (readTableOver F limit u rec store out f) (n .1));
+          record-left = t .record-left ∙ sym (none-gives (λ _. rec) _ (readTableOver F limit u rec store out f) (n .1));
+          store-left = t .store-left ∙ sym (none-gives (λ _. store) _ (readTableOver F limit u rec store out f) (n .1));
+          output-left = t .output-left ∙ sym (none-gives (λ _. out) _ (readTableOver F limit u rec store out f) (n .1));
         }
 
     -- and what those may rely on
-    pub ready : Ready rec x f store out
-    unfolding readTable outputFits
+    pub ready : Ready F limit rec x f store out
+    unfolding readTableOver outputFits
     ready =
         let t = n .1 .1 in
         let s = opened-sound u f (frameOf u f) (opened (n .1)) in
         rw (n .0)
         (record {
-          store-whole = whole-store (length store) (not-false _ (t .0));
-          output-room = leb-true (most + 2048) (length out) (not-false _ (t .1 .0));
+          store-whole = whole-store limit (length store) (not-false _ (t .0));
+          output-room = leb-true (limit + 2048) (length out) (not-false _ (t .1 .0));
           follows = not-false _ (t .1 .1 .0);
           inside = s .inside;
           some = s .least;
@@ -178,6 +178,6 @@ module _ (u : SetUp) (rec : Record) (store out f : List ℕ) where
         })
 
   -- so that is what it answers and leaves
-  pub leaves : None (readTable u rec store out f) → LeftBy u rec store out f
+  pub leaves : None (readTableOver F limit u rec store out f) → LeftBy F limit u rec store out f
   leaves n =
       accepts (frameOf u f) (refl, n) _ _ _ _ (record { answers = refl; record-left = refl; store-left = refl; output-left = refl })

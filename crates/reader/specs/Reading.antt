@@ -1,4 +1,5 @@
--- Reading a frame: the table of refusals (01, "When the desk says no"), and what one call answers and leaves behind.
+-- Reading a frame: the table of refusals (01, "When the desk says no"), and what one call answers and leaves behind; over a packet family and
+-- the limit of a delivered packet, and at the end for source packets and 4,096.
 use mathlib.Core.Bool.{Bool, true, false, not}
 use mathlib.Core.List.{List, [], _∷_, _++_, map}
 use mathlib.Core.Path.{_≡_}
@@ -7,7 +8,8 @@ use lib.Dec.{eqb}
 use lib.ListN.{length, getD, set, take, drop}
 use Rattle.octets.specs.Laid.{laid}
 use Rattle.octets.specs.Pick.{pick}
-use Rattle.packet.specs.Size.{most}
+use Rattle.packet.specs.Family.{Family}
+use Rattle.packet.specs.Size.{most, source}
 use Rattle.frame.specs.Opening.{row1, openTable, frameOf, idleData}
 use Rattle.frame.specs.Closing.{channels}
 use Rattle.frame.specs.SetUp.{mostField, mostLength}
@@ -35,26 +37,26 @@ use Rattle.walk.specs.Steps.{Done, courseOf, gapFor, stepsOf}
 use Rattle.walk.specs.Walk.{handedAll}
 
 -- row 2: the store is not 32,768 octets
-abbrev pub row2 : List ℕ → Bool
-row2 store = not (storeFits most (length store))
+abbrev pub row2 : ℕ → List ℕ → Bool
+row2 limit store = not (storeFits limit (length store))
 
 -- row 3: the output is under 6,144 octets
-abbrev pub row3 : List ℕ → Bool
-row3 out = not (outputFits most (length out))
+abbrev pub row3 : ℕ → List ℕ → Bool
+row3 limit out = not (outputFits limit (length out))
 
 -- row 4: any of the eight records breaks the rules
-abbrev pub row4 : Record → List ℕ → Bool
-row4 rec store = not (recordFollows most store rec)
+abbrev pub row4 : Family → ℕ → Record → List ℕ → Bool
+row4 F limit rec store = not (recordFollows F limit store rec)
 
 -- a row of the frame part's table
 abbrev pub ofFrame : Row FrameRefusal → Row Refusal
 ofFrame r = row (OfFrame (r .case)) (r .cause)
 
 -- rows 1 to 12, in the paper's order: 1, then 2, 3 and 4, then what the frame part tests
-unfoldable pub readTable : SetUp → Record → List ℕ → List ℕ → List ℕ → List (Row Refusal)
-readTable u rec store out f =
-    row (OfFrame SetUpRange) (row1 u) ∷ row StoreLength (row2 store) ∷ row OutputLength (row3 out)
-    ∷ row BrokenRecord (row4 rec store) ∷ map ofFrame (drop 1 (openTable u f))
+unfoldable pub readTableOver : Family → ℕ → SetUp → Record → List ℕ → List ℕ → List ℕ → List (Row Refusal)
+readTableOver F limit u rec store out f =
+    row (OfFrame SetUpRange) (row1 u) ∷ row StoreLength (row2 limit store) ∷ row OutputLength (row3 limit out)
+    ∷ row BrokenRecord (row4 F limit rec store) ∷ map ofFrame (drop 1 (openTable u f))
 
 -- "private if the synchronisation flag is 1, else idle if the pointer is 2046, else packets"
 unfoldable pub kindOf : Header → Kind
@@ -69,14 +71,14 @@ abbrev pub channelOf : Frame → Record → Channel
 channelOf x rec = getD (rec .channels) (x .header .channel) freshChannel
 
 -- steps 1 to 5 of an accepted frame
-abbrev pub doneBy : Frame → Record → List ℕ → List ℕ → Done
-doneBy x rec store f =
-    stepsOf most (partOf most (x .header .channel) store) (fieldOf x f) (x .header) (channelOf x rec)
+abbrev pub doneBy : Family → ℕ → Frame → Record → List ℕ → List ℕ → Done
+doneBy F limit x rec store f =
+    stepsOf F limit (partOf limit (x .header .channel) store) (fieldOf x f) (x .header) (channelOf x rec)
 
 -- the answer of an accepted frame: "kind [..], header values, control word (zero if not flagged), gap, and the counts"
-unfoldable pub reportOf : Frame → Channel → Done → Report
-reportOf x c d =
-    let t : Tally = courseOf d .tally in
+unfoldable pub reportOf : Family → Frame → Channel → Done → Report
+reportOf F x c d =
+    let t : Tally = courseOf F d .tally in
     record {
       kind = kindOf (x .header);
       header = x .header;
@@ -96,56 +98,77 @@ recordAfter x rec d =
     record { channels = set (rec .channels) (x .header .channel) (record { heard = true; last = x .header .count; state = d .state }) }
 
 -- "In the channel's store part the first k octets are the held ones, all others keep theirs."
-unfoldable pub storeAfter : Frame → List ℕ → Done → List ℕ
-storeAfter x store d =
-    withPart most (x .header .channel) store (laid (partOf most (x .header .channel) store) 0 (d .held))
+unfoldable pub storeAfter : ℕ → Frame → List ℕ → Done → List ℕ
+storeAfter limit x store d =
+    withPart limit (x .header .channel) store (laid (partOf limit (x .header .channel) store) 0 (d .held))
 
 -- "Delivered packets stand end to end from output octet 0; octets after them keep their values."
-unfoldable pub outputAfter : List ℕ → Done → List ℕ
-outputAfter out d = laid out 0 (handedAll (d .whole))
+unfoldable pub outputAfter : Family → List ℕ → Done → List ℕ
+outputAfter F out d = laid out 0 (handedAll F (d .whole))
 
 -- one call: its answer, and the record, store and output that it leaves; "on a refusal record, store and output are untouched"
-unfoldable pub answerOf : SetUp → Record → List ℕ → List ℕ → List ℕ → Answer
-answerOf u rec store out f =
+unfoldable pub answerOver : Family → ℕ → SetUp → Record → List ℕ → List ℕ → List ℕ → Answer
+answerOver F limit u rec store out f =
     let x : Frame = frameOf u f in
-    firstCause (readTable u rec store out f) Refused (Accepted (reportOf x (channelOf x rec) (doneBy x rec store f)))
+    firstCause (readTableOver F limit u rec store out f) Refused (Accepted (reportOf F x (channelOf x rec) (doneBy F limit x rec store f)))
 
-unfoldable pub recordOf : SetUp → Record → List ℕ → List ℕ → List ℕ → Record
-recordOf u rec store out f =
+unfoldable pub recordOver : Family → ℕ → SetUp → Record → List ℕ → List ℕ → List ℕ → Record
+recordOver F limit u rec store out f =
     let x : Frame = frameOf u f in
-    firstCause (readTable u rec store out f) (λ _. rec) (recordAfter x rec (doneBy x rec store f))
+    firstCause (readTableOver F limit u rec store out f) (λ _. rec) (recordAfter x rec (doneBy F limit x rec store f))
 
-unfoldable pub storeOf : SetUp → Record → List ℕ → List ℕ → List ℕ → List ℕ
-storeOf u rec store out f =
+unfoldable pub storeOver : Family → ℕ → SetUp → Record → List ℕ → List ℕ → List ℕ → List ℕ
+storeOver F limit u rec store out f =
     let x : Frame = frameOf u f in
-    firstCause (readTable u rec store out f) (λ _. store) (storeAfter x store (doneBy x rec store f))
+    firstCause (readTableOver F limit u rec store out f) (λ _. store) (storeAfter limit x store (doneBy F limit x rec store f))
 
-unfoldable pub outputOf : SetUp → Record → List ℕ → List ℕ → List ℕ → List ℕ
-outputOf u rec store out f =
+unfoldable pub outputOver : Family → ℕ → SetUp → Record → List ℕ → List ℕ → List ℕ → List ℕ
+outputOver F limit u rec store out f =
     let x : Frame = frameOf u f in
-    firstCause (readTable u rec store out f) (λ _. out) (outputAfter out (doneBy x rec store f))
+    firstCause (readTableOver F limit u rec store out f) (λ _. out) (outputAfter F out (doneBy F limit x rec store f))
 
 -- what a call must answer and leave behind
-pub record Read (u : SetUp) (rec : Record) (store out f : List ℕ) (answer : Answer) (rec′ : Record) (store′ out′ : List ℕ) : Type 0 where
-  pub answers : answer ≡ answerOf u rec store out f
-  pub record-left : rec′ ≡ recordOf u rec store out f
-  pub store-left : store′ ≡ storeOf u rec store out f
-  pub output-left : out′ ≡ outputOf u rec store out f
+pub record ReadOver (F : Family) (limit : ℕ) (u : SetUp) (rec : Record) (store out f : List ℕ) (answer : Answer) (rec′ : Record)
+    (store′ out′ : List ℕ) : Type 0 where
+  pub answers : answer ≡ answerOver F limit u rec store out f
+  pub record-left : rec′ ≡ recordOver F limit u rec store out f
+  pub store-left : store′ ≡ storeOver F limit u rec store out f
+  pub output-left : out′ ≡ outputOver F limit u rec store out f
 
 -- the same of a frame that passed all tests and gives x
-pub record ReadBy (x : Frame) (rec : Record) (store out f : List ℕ) (answer : Answer) (rec′ : Record) (store′ out′ : List ℕ) : Type 0 where
-  pub answers : answer ≡ Accepted (reportOf x (channelOf x rec) (doneBy x rec store f))
-  pub record-left : rec′ ≡ recordAfter x rec (doneBy x rec store f)
-  pub store-left : store′ ≡ storeAfter x store (doneBy x rec store f)
-  pub output-left : out′ ≡ outputAfter out (doneBy x rec store f)
+pub record ReadBy (F : Family) (limit : ℕ) (x : Frame) (rec : Record) (store out f : List ℕ) (answer : Answer) (rec′ : Record)
+    (store′ out′ : List ℕ) : Type 0 where
+  pub answers : answer ≡ Accepted (reportOf F x (channelOf x rec) (doneBy F limit x rec store f))
+  pub record-left : rec′ ≡ recordAfter x rec (doneBy F limit x rec store f)
+  pub store-left : store′ ≡ storeAfter limit x store (doneBy F limit x rec store f)
+  pub output-left : out′ ≡ outputAfter F out (doneBy F limit x rec store f)
 
 -- what the steps of a frame that gives x may rely on
-pub record Ready (rec : Record) (x : Frame) (f store out : List ℕ) : Type 0 where
-  pub store-whole : length store ≡ most * channels
-  pub output-room : most + mostLength ≤ length out
-  pub follows : recordFollows most store rec ≡ true
+pub record Ready (F : Family) (limit : ℕ) (rec : Record) (x : Frame) (f store out : List ℕ) : Type 0 where
+  pub store-whole : length store ≡ limit * channels
+  pub output-room : limit + mostLength ≤ length out
+  pub follows : recordFollows F limit store rec ≡ true
   pub inside : x .place + x .size ≤ length f
   pub some : 1 ≤ x .size
   pub few : x .size ≤ mostField
   pub channel : x .header .channel < channels
   pub points : x .header .synchronisation ≡ false → Points (x .header .pointer) (x .size)
+
+-- all of it for the desk's own packets and limit: source packets of up to 4,096 octets
+abbrev pub readTable : SetUp → Record → List ℕ → List ℕ → List ℕ → List (Row Refusal)
+readTable = readTableOver source most
+
+abbrev pub answerOf : SetUp → Record → List ℕ → List ℕ → List ℕ → Answer
+answerOf = answerOver source most
+
+abbrev pub recordOf : SetUp → Record → List ℕ → List ℕ → List ℕ → Record
+recordOf = recordOver source most
+
+abbrev pub storeOf : SetUp → Record → List ℕ → List ℕ → List ℕ → List ℕ
+storeOf = storeOver source most
+
+abbrev pub outputOf : SetUp → Record → List ℕ → List ℕ → List ℕ → List ℕ
+outputOf = outputOver source most
+
+abbrev pub Read : SetUp → Record → List ℕ → List ℕ → List ℕ → Answer → Record → List ℕ → List ℕ → Type 0
+Read = ReadOver source most

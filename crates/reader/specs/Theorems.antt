@@ -1,13 +1,14 @@
--- What is proved of a reading besides the functions' contracts. The proofs are in proofs/Laws.antt, under these names in lower case.
+-- What is proved of a reading, over a packet family and a limit, besides the functions' contracts. The proofs are in proofs/Laws.antt, under
+-- these names in lower case.
 use mathlib.Core.Path.{_≡_}
-use mathlib.Core.Bool.{Bool, true, false, not, _&&_}
+use mathlib.Core.Bool.{true, not}
 use mathlib.Core.List.{List}
 use mathlib.Core.Logic.{_↔_}
-use Prim.Native.Nat.{ℕ, _+_, _/_, _≤_, _<_}
-use lib.Dec.{eqb, leb}
+use Prim.Native.Nat.{ℕ, _+_, _*_, _<_}
+use lib.Dec.{eqb}
 use lib.ListN.{length, getD}
 use Rattle.octets.specs.Pick.{pick}
-use Rattle.packet.specs.Size.{most}
+use Rattle.packet.specs.Family.{Family, Lawful, Octets}
 use Rattle.frame.specs.Closing.{channels}
 use Rattle.frame.specs.Opening.{frameOf}
 use Rattle.frame.specs.Table.{First, None}
@@ -17,60 +18,58 @@ use Rattle.channel.specs.Rules.{recordFollows}
 use Rattle.channel.specs.State.{freshChannel}
 use Rattle.channel.specs.Store.{partOf}
 use Rattle.channel.specs.declared.state.Record.{Record}
-use Rattle.channel.specs.declared.state.State.{State}
-use Rattle.channel.specs.declared.state.State.the-variants.{Hunting, Gathering, Skipping}
 use Rattle.reader.specs.declared.reading.Answer.the-variants.{Refused, Accepted}
 use Rattle.reader.specs.declared.reading.Refusal.{Refusal}
 use Rattle.reader.specs.declared.reading.Report.{Report}
 use Rattle.reader.specs.Answers.{numberOf, valuesOf}
-use Rattle.reader.specs.Reading.{readTable, answerOf, recordOf, storeOf, outputOf, channelOf, fieldOf}
-use Rattle.walk.specs.Theorems.{Octets, skipsOut}
+use Rattle.reader.specs.Reading.{readTableOver, answerOver, recordOver, storeOver, outputOver, channelOf}
 use Rattle.walk.specs.Steps.{carriesNone, gapFor}
+use Rattle.walk.specs.Theorems.{Sound, skipsOut}
 
 -- a number is given exactly when its cause holds and no earlier one does
-abbrev pub Number-exactly : Type 0
-Number-exactly = (u : SetUp) (rec : Record) (store out f : List ℕ) (r : Refusal)
-    → getD (valuesOf (answerOf u rec store out f)) 0 0 ≡ numberOf r ↔ First (readTable u rec store out f) r
+abbrev pub Number-exactly : Family → ℕ → Type 0
+Number-exactly F limit = (u : SetUp) (rec : Record) (store out f : List ℕ) (r : Refusal)
+    → getD (valuesOf (answerOver F limit u rec store out f)) 0 0 ≡ numberOf r ↔ First (readTableOver F limit u rec store out f) r
 
 -- "In reading, every other returned value is zero"
-abbrev pub Refused-zero : Type 0
-Refused-zero = (u : SetUp) (rec : Record) (store out f : List ℕ) (r : Refusal) (i : ℕ)
-    → answerOf u rec store out f ≡ Refused r → getD (valuesOf (answerOf u rec store out f)) (i + 1) 0 ≡ 0
+abbrev pub Refused-zero : Family → ℕ → Type 0
+Refused-zero F limit = (u : SetUp) (rec : Record) (store out f : List ℕ) (r : Refusal) (i : ℕ)
+    → answerOver F limit u rec store out f ≡ Refused r → getD (valuesOf (answerOver F limit u rec store out f)) (i + 1) 0 ≡ 0
 
 -- a frame is accepted exactly when no cause holds
-abbrev pub Accepted-exactly : Type 0
-Accepted-exactly = (u : SetUp) (rec : Record) (store out f : List ℕ)
-    → ((a : Report) × (answerOf u rec store out f ≡ Accepted a)) ↔ None (readTable u rec store out f)
+abbrev pub Accepted-exactly : Family → ℕ → Type 0
+Accepted-exactly F limit = (u : SetUp) (rec : Record) (store out f : List ℕ)
+    → ((a : Report) × (answerOver F limit u rec store out f ≡ Accepted a)) ↔ None (readTableOver F limit u rec store out f)
 
 -- "record, store and output are untouched"
-pub record Untouched (u : SetUp) (rec : Record) (store out f : List ℕ) : Type 0 where
-  pub same-record : recordOf u rec store out f ≡ rec
-  pub same-store : storeOf u rec store out f ≡ store
-  pub same-output : outputOf u rec store out f ≡ out
+pub record Untouched (F : Family) (limit : ℕ) (u : SetUp) (rec : Record) (store out f : List ℕ) : Type 0 where
+  pub same-record : recordOver F limit u rec store out f ≡ rec
+  pub same-store : storeOver F limit u rec store out f ≡ store
+  pub same-output : outputOver F limit u rec store out f ≡ out
 
-abbrev pub Refused-untouched : Type 0
-Refused-untouched = (u : SetUp) (rec : Record) (store out f : List ℕ) (r : Refusal)
-    → answerOf u rec store out f ≡ Refused r → Untouched u rec store out f
+abbrev pub Refused-untouched : Family → ℕ → Type 0
+Refused-untouched F limit = (u : SetUp) (rec : Record) (store out f : List ℕ) (r : Refusal)
+    → answerOver F limit u rec store out f ≡ Refused r → Untouched F limit u rec store out f
 
 -- every accepted frame keeps the rules of the record, and the lengths
-pub record Keeps (u : SetUp) (rec : Record) (store out f : List ℕ) : Type 0 where
-  pub follows : recordFollows most (storeOf u rec store out f) (recordOf u rec store out f) ≡ true
-  pub eight : length (recordOf u rec store out f .channels) ≡ channels
-  pub store-length : length (storeOf u rec store out f) ≡ length store
-  pub output-length : length (outputOf u rec store out f) ≡ length out
+pub record Keeps (F : Family) (limit : ℕ) (u : SetUp) (rec : Record) (store out f : List ℕ) : Type 0 where
+  pub follows : recordFollows F limit (storeOver F limit u rec store out f) (recordOver F limit u rec store out f) ≡ true
+  pub eight : length (recordOver F limit u rec store out f .channels) ≡ channels
+  pub store-length : length (storeOver F limit u rec store out f) ≡ length store
+  pub output-length : length (outputOver F limit u rec store out f) ≡ length out
 
-abbrev pub Accepted-keeps : Type 0
-Accepted-keeps = (u : SetUp) (rec : Record) (store out f : List ℕ) (a : Report) → Octets store → Octets f → length (rec .channels) ≡ channels
-    → answerOf u rec store out f ≡ Accepted a → Keeps u rec store out f
+abbrev pub Accepted-keeps : Family → ℕ → Type 0
+Accepted-keeps F limit = Sound F limit → (u : SetUp) (rec : Record) (store out f : List ℕ) (a : Report) → Octets store → Octets f → length (rec .channels) ≡ channels
+    → answerOver F limit u rec store out f ≡ Accepted a → Keeps F limit u rec store out f
 
 -- only the frame's own channel and its part of the store can change
-pub record Apart (u : SetUp) (rec : Record) (store out f : List ℕ) (w : ℕ) : Type 0 where
-  pub channel-kept : getD (recordOf u rec store out f .channels) w freshChannel ≡ getD (rec .channels) w freshChannel
-  pub part-kept : partOf most w (storeOf u rec store out f) ≡ partOf most w store
+pub record Apart (F : Family) (limit : ℕ) (u : SetUp) (rec : Record) (store out f : List ℕ) (w : ℕ) : Type 0 where
+  pub channel-kept : getD (recordOver F limit u rec store out f .channels) w freshChannel ≡ getD (rec .channels) w freshChannel
+  pub part-kept : partOf limit w (storeOver F limit u rec store out f) ≡ partOf limit w store
 
-abbrev pub Others-apart : Type 0
-Others-apart = (u : SetUp) (rec : Record) (store out f : List ℕ) (a : Report) (w : ℕ)
-    → answerOf u rec store out f ≡ Accepted a → w < channels → (w ≡ a .header .channel → ⊥) → Apart u rec store out f w
+abbrev pub Others-apart : Family → ℕ → Type 0
+Others-apart F limit = Sound F limit → (u : SetUp) (rec : Record) (store out f : List ℕ) (a : Report) (w : ℕ)
+    → answerOver F limit u rec store out f ≡ Accepted a → w < channels → (w ≡ a .header .channel → ⊥) → Apart F limit u rec store out f w
 
 -- a skip ended in this frame: it carries packets, there is no gap, and the channel skipped to a place within the field
 abbrev pub skipEnded : Frame → Record → ℕ
@@ -79,7 +78,8 @@ skipEnded x rec =
     (pick (not (eqb (gapFor (channelOf x rec) (x .header)) 0)) 0
     (pick (skipsOut (channelOf x rec .state) (x .header .pointer) (x .size)) 1 0))
 
--- "Delivered plus idle is at most D / 7 rounded up", and so with 1 more if a skip ended
-abbrev pub Few-enough : Type 0
-Few-enough = (u : SetUp) (rec : Record) (store out f : List ℕ) (a : Report) → answerOf u rec store out f ≡ Accepted a
-    → a .delivered + a .idle + skipEnded (frameOf u f) rec ≤ (frameOf u f .size + 6) / 7
+-- each finished packet, and a skip that ended, takes at least the octets of the least packet, but for those of an earlier frame; so with
+-- source packets "Delivered plus idle is at most D / 7 rounded up"
+abbrev pub Few-enough : Family → ℕ → Type 0
+Few-enough F limit = Lawful F → (u : SetUp) (rec : Record) (store out f : List ℕ) (a : Report) → answerOver F limit u rec store out f ≡ Accepted a
+    → F .least * (a .delivered + a .idle + skipEnded (frameOf u f) rec) < frameOf u f .size + F .least

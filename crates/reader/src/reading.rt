@@ -11,6 +11,7 @@ use packet::Packet;
 use walk::gap_for;
 use walk::steps;
 ghost use mathlib.Core.Path.{_≡_};
+ghost use Rattle.packet.specs.Size.{most, source};
 ghost use Rattle.reader.specs.Answers.{numberOf};
 ghost use Rattle.reader.specs.Reading.{Read, ReadBy, Ready, kindOf};
 
@@ -91,8 +92,8 @@ fn refused(refusal: Refusal, rec: Record) -> Outcome
 
 // Steps 1 to 5 of a frame that passed all tests.
 fn accept(rec: Record, x: Frame, frame: &[u8], store: &mut [u8], out: &mut [u8]) -> Outcome
-    requires { ⌜ Ready rec x (now frame) (now store) (now out) ⌝ }
-    ensures { λ r. ⌜ ReadBy x rec (now (store .entry)) (now (out .entry)) (now (frame .entry)) (r .answer) (r .after) (now (store .exit)) (now (out .exit)) ⌝ }
+    requires { ⌜ Ready source most rec x (now frame) (now store) (now out) ⌝ }
+    ensures { λ r. ⌜ ReadBy source most x rec (now (store .entry)) (now (out .entry)) (now (frame .entry)) (r .answer) (r .after) (now (store .exit)) (now (out .exit)) ⌝ }
 {
     let h = x.header;
     let v = h.channel;

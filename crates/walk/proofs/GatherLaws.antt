@@ -14,11 +14,11 @@ use Rattle.octets.specs.Laid.{laid}
 use Rattle.octets.specs.Numbers.{numberAt, bitsAt}
 use Rattle.octets.proofs.Runs.{laid-behind}
 use Rattle.octets.specs.Pick.{pick}
-use Rattle.packet.specs.Size.{sizeOf, idleOf, versionOf}
+use Rattle.packet.specs.Size.{sizeOf, idleOf, source}
 use Rattle.packet.specs.declared.source.Size.{Size}
 use Rattle.frame.specs.SetUp.{mostField, mostLength}
 use Rattle.packet.specs.declared.source.Size.the-variants.{Wait, Foreign, Total}
-use Rattle.packet.proofs.Laws.{size-in-words, total-least, total-stays}
+use Rattle.packet.proofs.Laws.{source-lawful}
 use Rattle.channel.specs.Rules.{judged, stateFollows}
 use Rattle.channel.specs.declared.state.State.the-variants.{Gathering}
 use Rattle.channel.proofs.RuleLaws.{both}
@@ -51,7 +51,7 @@ idle-told l n h =
     rw (getD-take n l 0 0 a, getD-take n l 1 0 b)
 
 -- one packet fills at most its own length
-tally-fits : (p : List ℕ) → tallied noTally p .filled ≤ length p
+tally-fits : (p : List ℕ) → tallied source noTally p .filled ≤ length p
 unfolding tallied
 tally-fits p = go (idleOf p)
   where
@@ -72,88 +72,76 @@ module _ (held field : List ℕ) (k n : ℕ) (e : k ≡ length held) (above : k 
 
   -- the walk over the field that goes on behind it has room
   pub gather-room : (limit : ℕ) (out : List ℕ) (t : Tally) → n ≤ k + length field → length field ≤ limit → k + length field < length out
-      → t ≡ tallied noTally (take n (held ++ field))
+      → t ≡ tallied source noTally (take n (held ++ field))
       → (n - k ≤ length field) × (length field ≤ limit) × (t .filled + (length field - (n - k)) ≤ length out)
       × (t .delivered + t .idle + (length field - (n - k)) ≤ length out)
   gather-room limit out t there fits room et =
       let p = take n (held ++ field) in
       let l = length-take n (held ++ field) in
       let f = tally-fits p in
-      let o = counted-more noTally p in
+      let o = counted-more source noTally p in
       rw et (omega arith)
 
   -- it is finished, and the walk over the field went on behind it
   pub did-gather : (limit : ℕ) (course : Course) (part part′ out out₁ out′ : List ℕ) (t : Tally) (end : Ended)
       → sizeOf (held ++ field) ≡ Total n → n ≤ limit → n ≤ k + length field → k + length field ≤ length out
-      → t ≡ tallied noTally (take n (held ++ field)) → out₁ ≡ laid out 0 (handed (take n (held ++ field)))
-      → end ≡ finished t (walkOf limit (drop (n - k) field))
-      → out′ ≡ laid out₁ (t .filled) (handedAll (walkOf limit (drop (n - k) field) .whole))
+      → t ≡ tallied source noTally (take n (held ++ field)) → out₁ ≡ laid out 0 (handed source (take n (held ++ field)))
+      → end ≡ finished source t (walkOf source limit (drop (n - k) field))
+      → out′ ≡ laid out₁ (t .filled) (handedAll source (walkOf source limit (drop (n - k) field) .whole))
       → course ≡ courseBy (end .tally) (end .end) → part′ ≡ laid part 0 (heldBy (end .end) field)
-      → Did (ended (walkOf limit (held ++ field))) course part part′ out out′
+      → Did source (ended (walkOf source limit (held ++ field))) course part part′ out out′
   did-gather limit course part part′ out out₁ out′ t end told within there room et e₁ answer output reports holds =
       let d = held ++ field in
       let l : length d ≡ k + length field = omega (arith, length-append held field) in
-      let s : seenOf limit d ≡ Whole n = sym (sees-packet limit d n told within (omega arith)) in
-      let w = walk-whole limit d n s in
-      did-walk limit field (n - k) (omega arith) course part part′ out out′ end d
+      let s : seenOf source limit d ≡ Whole n = sym (sees-packet source limit d n told within (omega arith)) in
+      let w = walk-whole source source-lawful limit d n s in
+      did-walk source source-lawful limit field (n - k) (omega arith) course part part′ out out′ end d
       (rw (w, across-drop))
       (rw (w, across-drop))
       noTally
       refl
-      (answer ∙ rw (et, ← across-drop) (finished-more limit noTally d n s))
-      (output ∙ rw (et, e₁, ← across-drop) (output-more limit noTally d out n s (omega arith)))
+      (answer ∙ rw (et, ← across-drop) (finished-more source source-lawful limit noTally d n s))
+      (output ∙ rw (et, e₁, ← across-drop) (output-more source source-lawful limit noTally d out n s (omega arith)))
       reports
       holds
 
 -- such a packet, idle or delivered
 module _ (held field out : List ℕ) (n : ℕ) (least : 7 ≤ n) where
   pub finish-idle : idleOf (held ++ field) ≡ true
-      → (record { delivered = 0; idle = 1; filled = 0 } ≡ tallied noTally (take n (held ++ field)))
-      × (out ≡ laid out 0 (handed (take n (held ++ field))))
+      → (record { delivered = 0; idle = 1; filled = 0 } ≡ tallied source noTally (take n (held ++ field)))
+      × (out ≡ laid out 0 (handed source (take n (held ++ field))))
   finish-idle i =
       let p = take n (held ++ field) in
       let j : idleOf p ≡ true = idle-told (held ++ field) n (omega arith) ∙ i in
-      (idle-tally noTally p j, idle-output out p 0 j)
+      (idle-tally source noTally p j, idle-output source out p 0 j)
 
   pub finish-delivered : length held ≤ n → n ≤ length held + length field → n ≤ length out → idleOf (held ++ field) ≡ false
       → (out₁ out₂ : List ℕ) → out₁ ≡ laid out 0 held → out₂ ≡ laid out₁ (length held) (take (n - length held) field)
-      → (record { delivered = 1; idle = 0; filled = n } ≡ tallied noTally (take n (held ++ field)))
-      × (out₂ ≡ laid out 0 (handed (take n (held ++ field))))
+      → (record { delivered = 1; idle = 0; filled = n } ≡ tallied source noTally (take n (held ++ field)))
+      × (out₂ ≡ laid out 0 (handed source (take n (held ++ field))))
   finish-delivered h there room i out₁ out₂ e₁ e₂ =
       let p = take n (held ++ field) in
       let r = take (n - length held) field in
       let j : idleOf p ≡ false = idle-told (held ++ field) n (omega arith) ∙ i in
       let l : n ≡ 0 + length p = omega (arith, length-take n (held ++ field), length-append held field) in (
-        ap (λ (m : ℕ). record { delivered = 1; idle = 0; filled = m }) l ∙ delivered-tally noTally p j,
+        ap (λ (m : ℕ). record { delivered = 1; idle = 0; filled = m }) l ∙ delivered-tally source noTally p j,
         e₂ ∙ ap (λ (o : List ℕ). laid o (length held) r) e₁ ∙ laid-behind out 0 (length held) held r (omega arith) (omega arith)
-            ∙ ap (laid out 0) (sym (across-take held field (length held) n refl h)) ∙ delivered-output out p 0 j,
+            ∙ ap (laid out 0) (sym (across-take held field (length held) n refl h)) ∙ delivered-output source out p 0 j,
       )
 
 -- fewer than six octets wait
-waits-few : (p : List ℕ) → sizeOf p ≡ Wait → length p < 6
-waits-few p e = go (decLt (length p) 6) (ℕ-discrete (versionOf p) 0)
-  where
-    go : Dec (length p < 6) → Dec (versionOf p ≡ 0) → length p < 6
-    go (yes l) v = l
-    go (no l) (yes v) =
-        let t = size-in-words p .six (omega arith) v in
-        absurd (let z : _≡_ {A = ℕ} 0 1 = cc in omega arith)
-    go (no l) (no v) =
-        let t = size-in-words p .other (omega arith) v in
-        absurd (let z : _≡_ {A = ℕ} 0 1 = cc in omega arith)
-
 pub waits-room : (part field : List ℕ) (k : ℕ) → k ≤ length part → sizeOf (take k part ++ field) ≡ Wait → k + length field < 6
-waits-room part field k h e = omega (arith, waits-few (take k part ++ field) e, length-run part field k h)
+waits-room part field k h e = omega (arith, source-lawful .header-tells (take k part ++ field) e, length-run part field k h)
 
 -- what the rules say of k held octets
-pub gathers : (limit : ℕ) (part : List ℕ) (k : ℕ) → stateFollows limit part (Gathering k) ≡ true
+pub gathers : (limit : ℕ) (part : List ℕ) (k : ℕ) → stateFollows source limit part (Gathering k) ≡ true
     → (k < limit) × (judged limit k (sizeOf (take k part)) ≡ true)
 unfolding stateFollows
 gathers limit part k e =
     let t = both (ltb k limit) (judged limit k (sizeOf (take k part))) e in
     (ltb-true k limit (t .0), t .1)
 
-pub held-there : (limit : ℕ) (part : List ℕ) (k : ℕ) → length part ≡ limit → stateFollows limit part (Gathering k) ≡ true
+pub held-there : (limit : ℕ) (part : List ℕ) (k : ℕ) → length part ≡ limit → stateFollows source limit part (Gathering k) ≡ true
     → (k ≤ length part) × (k ≡ length (take k part))
 held-there limit part k e follows =
     let g = gathers limit part k follows .0 in
@@ -161,19 +149,19 @@ held-there limit part k e follows =
 
 -- a total that the held octets and the field tell lies above k, and above the limit only if it is not all there
 pub under-way : (limit : ℕ) (part field : List ℕ) (k n : ℕ) → length part ≡ limit → mostLength ≤ limit → length field ≤ mostField
-    → stateFollows limit part (Gathering k) ≡ true → sizeOf (take k part ++ field) ≡ Total n → (k < n) × (limit < n → k + length field < n)
+    → stateFollows source limit part (Gathering k) ≡ true → sizeOf (take k part ++ field) ≡ Total n → (k < n) × (limit < n → k + length field < n)
 unfolding judged
 under-way limit part field k n lp wide few follows e = go (sizeOf (take k part)) refl (gathers limit part k follows .1)
   where
     go : (s : Size) → sizeOf (take k part) ≡ s → judged limit k s ≡ true → (k < n) × (limit < n → k + length field < n)
     go Wait p j =
-        let w = waits-few (take k part) p in
+        let w = source-lawful .header-tells (take k part) p in
         let l = held-there limit part k lp follows in
-        let t = total-least (take k part ++ field) n e in
+        let t = source-lawful .total-least (take k part ++ field) n e in
         (omega arith, λ h. omega arith)
     go Foreign p j = absurd (let z : _≡_ {A = ℕ} 0 1 = cc in omega arith)
     go (Total m) p j =
-        let t = total-stays (take k part) field m p in
+        let t = source-lawful .total-stays (take k part) field m p in
         let s : m ≡ n = cc in
         let b = both _ _ j in
         (omega (arith, ltb-true k m (b .0)), λ h. absurd (omega (arith, leb-true m limit (b .1))))

@@ -9,7 +9,7 @@ use lib.Seq.{getD-take, getD-drop}
 use Rattle.octets.specs.Laid.{laid}
 use Rattle.octets.proofs.Laws.{in-second-run}
 use Rattle.channel.specs.Store.{placeOf, partOf, withPart}
-use Rattle.walk.specs.Theorems.{Octets}
+use Rattle.packet.specs.Family.{Octets}
 
 pub octets-drop : (l : List ℕ) (n : ℕ) → Octets l → Octets (drop n l)
 octets-drop l n h i = rw getD-drop (h (n + i))

@@ -10,7 +10,7 @@ use lib.Dec.{eqb}
 use lib.ListN.{length, take, drop}
 use borrow.Author.Tests.{lt-ltb, le-ltb, le-leb, lt-leb, eq-eqb, ne-eqb, eqb-false}
 use Rattle.octets.specs.Pick.{pick}
-use Rattle.packet.specs.Size.{sizeOf}
+use Rattle.packet.specs.Family.{Family}
 use Rattle.packet.specs.declared.source.Size.{Size}
 use Rattle.packet.specs.declared.source.Size.the-variants.{Wait, Foreign, Total}
 use Rattle.frame.specs.Opening.{idleData, noneStarts}
@@ -66,55 +66,55 @@ pub walk-room : {limit : ℕ} {part field : List ℕ} {pointer : ℕ} {out : Lis
 walk-room f from t h z = rw z (omega (arith, f))
 
 -- step 4
-module _ (limit : ℕ) (field : List ℕ) (pointer : ℕ) where
-  pub hunted-none : pointer ≡ noneStarts → hunted limit field pointer ≡ only Hunting
+module _ (F : Family) (limit : ℕ) (field : List ℕ) (pointer : ℕ) where
+  pub hunted-none : pointer ≡ noneStarts → hunted F limit field pointer ≡ only Hunting
   unfolding hunted
   hunted-none h = rw (eq-eqb pointer noneStarts h)
 
-  pub hunted-from : (pointer ≡ noneStarts → ⊥) → hunted limit field pointer ≡ ended (walkOf limit (drop pointer field))
+  pub hunted-from : (pointer ≡ noneStarts → ⊥) → hunted F limit field pointer ≡ ended (walkOf F limit (drop pointer field))
   unfolding hunted
   hunted-from h = rw (ne-eqb pointer noneStarts h)
 
 -- step 3
-module _ (limit : ℕ) (part field : List ℕ) (pointer : ℕ) where
-  pub gathers-on : (k : ℕ) → agrees (length field) k (sizeOf (take k part ++ field)) pointer ≡ true
-      → resumed limit part field pointer (Gathering k) ≡ ended (walkOf limit (take k part ++ field))
+module _ (F : Family) (limit : ℕ) (part field : List ℕ) (pointer : ℕ) where
+  pub gathers-on : (k : ℕ) → agrees (length field) k (F .size (take k part ++ field)) pointer ≡ true
+      → resumed F limit part field pointer (Gathering k) ≡ ended (walkOf F limit (take k part ++ field))
   unfolding resumed gathered
   gathers-on k e = rw e
 
-  pub gathers-apart : (k : ℕ) → agrees (length field) k (sizeOf (take k part ++ field)) pointer ≡ false
-      → resumed limit part field pointer (Gathering k) ≡ disagreed (Gathering k) (hunted limit field pointer)
+  pub gathers-apart : (k : ℕ) → agrees (length field) k (F .size (take k part ++ field)) pointer ≡ false
+      → resumed F limit part field pointer (Gathering k) ≡ disagreed (Gathering k) (hunted F limit field pointer)
   unfolding resumed gathered
   gathers-apart k e = rw e
 
   module _ (r : ℕ) where
     pub skips-apart : (pointer ≡ calledAt (length field) r → ⊥)
-        → resumed limit part field pointer (Skipping r) ≡ disagreed (Skipping r) (hunted limit field pointer)
+        → resumed F limit part field pointer (Skipping r) ≡ disagreed (Skipping r) (hunted F limit field pointer)
     unfolding resumed skipped
     skips-apart h = rw (ne-eqb pointer (calledAt (length field) r) h)
 
     pub skips-on : pointer ≡ calledAt (length field) r → length field < r
-        → resumed limit part field pointer (Skipping r) ≡ only (Skipping (r - length field))
+        → resumed F limit part field pointer (Skipping r) ≡ only (Skipping (r - length field))
     unfolding resumed skipped
     skips-on e h = rw (eq-eqb pointer (calledAt (length field) r) e, lt-leb r (length field) h)
 
     pub skips-out : pointer ≡ calledAt (length field) r → r ≤ length field
-        → resumed limit part field pointer (Skipping r) ≡ ended (walkOf limit (drop r field))
+        → resumed F limit part field pointer (Skipping r) ≡ ended (walkOf F limit (drop r field))
     unfolding resumed skipped
     skips-out e h = rw (eq-eqb pointer (calledAt (length field) r) e, le-leb r (length field) h)
 
 -- step 2
-module _ (limit : ℕ) (part field : List ℕ) (h : Header) (c : Channel) where
-  pub steps-none : carriesNone h ≡ true → stepsOf limit part field h c ≡ broke (c .state) (only Hunting)
+module _ (F : Family) (limit : ℕ) (part field : List ℕ) (h : Header) (c : Channel) where
+  pub steps-none : carriesNone h ≡ true → stepsOf F limit part field h c ≡ broke (c .state) (only Hunting)
   unfolding stepsOf
   steps-none e = rw e
 
   module _ (e : carriesNone h ≡ false) where
-    pub steps-gap : (gapFor c h ≡ 0 → ⊥) → stepsOf limit part field h c ≡ broke (c .state) (hunted limit field (h .pointer))
+    pub steps-gap : (gapFor c h ≡ 0 → ⊥) → stepsOf F limit part field h c ≡ broke (c .state) (hunted F limit field (h .pointer))
     unfolding stepsOf
     steps-gap g = rw (e, ne-eqb (gapFor c h) 0 g)
 
-    pub steps-on : gapFor c h ≡ 0 → stepsOf limit part field h c ≡ resumed limit part field (h .pointer) (c .state)
+    pub steps-on : gapFor c h ≡ 0 → stepsOf F limit part field h c ≡ resumed F limit part field (h .pointer) (c .state)
     unfolding stepsOf
     steps-on g = rw (e, eq-eqb (gapFor c h) 0 g)
 
@@ -128,17 +128,17 @@ unfolding carriesNone
 carries-packets h e = let t = either-false _ _ e in (t .0, eqb-false (h .pointer) idleData (t .1))
 
 -- a channel that keeps the rules, heard or not, is in a state that does
-hunts-follows : (limit : ℕ) (part : List ℕ) (s : State) → hunts s ≡ true → stateFollows limit part s ≡ true
+hunts-follows : (F : Family) (limit : ℕ) (part : List ℕ) (s : State) → hunts s ≡ true → stateFollows F limit part s ≡ true
 unfolding hunts stateFollows
-hunts-follows limit part Hunting e = refl
-hunts-follows limit part (Gathering k) e = absurd (false≢true e)
-hunts-follows limit part (Skipping r) e = absurd (false≢true e)
+hunts-follows F limit part Hunting e = refl
+hunts-follows F limit part (Gathering k) e = absurd (false≢true e)
+hunts-follows F limit part (Skipping r) e = absurd (false≢true e)
 
-pub state-follows : (limit : ℕ) (part : List ℕ) (c : Channel) → channelFollows limit part c ≡ true
-    → stateFollows limit part (c .state) ≡ true
+pub state-follows : (F : Family) (limit : ℕ) (part : List ℕ) (c : Channel) → channelFollows F limit part c ≡ true
+    → stateFollows F limit part (c .state) ≡ true
 unfolding channelFollows
-state-follows limit part c e = go (c .heard) e
+state-follows F limit part c e = go (c .heard) e
   where
-    go : (b : Bool) → pick b (stateFollows limit part (c .state)) (hunts (c .state)) ≡ true → stateFollows limit part (c .state) ≡ true
+    go : (b : Bool) → pick b (stateFollows F limit part (c .state)) (hunts (c .state)) ≡ true → stateFollows F limit part (c .state) ≡ true
     go true e = e
-    go false e = hunts-follows limit part (c .state) e
+    go false e = hunts-follows F limit part (c .state) e

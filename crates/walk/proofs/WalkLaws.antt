@@ -4,6 +4,7 @@ use mathlib.Core.Path.{_≡_, refl, _∙_, sym, ap}
 use mathlib.Core.Bool.{Bool, true, false}
 use mathlib.Core.List.{List, [], _∷_, _++_}
 use Prim.Native.Nat.{ℕ, zero, suc, _+_, _-_, _*_, _≤_, _<_}
+use native.Mathlib.Nat.{mul-zero, mul-suc}
 use native.Mathlib.Omega.{arith}
 use lib.Dec.{eqb, ltb, leb}
 use lib.ListN.{length, take, drop, length-append, length-drop, length-take}
@@ -12,8 +13,7 @@ use borrow.Author.Tests.{ltb-false, leb-true, lt-ltb, le-ltb, le-leb, lt-leb, ne
 use Rattle.octets.specs.Laid.{laid}
 use Rattle.octets.proofs.Laws.{length-laid}
 use Rattle.octets.specs.Pick.{pick}
-use Rattle.packet.specs.Size.{sizeOf, idleOf}
-use Rattle.packet.proofs.Laws.{total-least}
+use Rattle.packet.specs.Family.{Family, Lawful}
 use Rattle.packet.specs.declared.source.Size.{Size}
 use Rattle.packet.specs.declared.source.Size.the-variants.{Wait, Foreign, Total}
 use Rattle.walk.specs.declared.walking.End.{End}
@@ -24,11 +24,12 @@ use Rattle.octets.proofs.Runs.{laid-nil, laid-behind}
 use Rattle.walk.specs.Walk.{front, seenOf, Walked, cutOf, turn, turns, walkOf, handed, handedAll, oneIdle, oneDelivered, tallied, talliedAll, finished}
 
 -- a whole packet at the front: its total, within the limit, is there
-pub record Stands (limit : ℕ) (d : List ℕ) (n : ℕ) : Type 0 where
-  pub told : sizeOf d ≡ Total n
+pub record Stands (F : Family) (limit : ℕ) (d : List ℕ) (n : ℕ) : Type 0 where
+  pub told : F .size d ≡ Total n
   pub within : n ≤ limit
   pub there : n ≤ length d
-  pub least : 7 ≤ n
+  pub some : 1 ≤ n
+  pub least : F .least ≤ n
 
 stop-whole : {A : Type 0} {e : End} {n : ℕ} → Stop e ≡ Whole n → A
 stop-whole p = absurd (let z : _≡_ {A = ℕ} 0 1 = cc in omega arith)
@@ -51,11 +52,11 @@ front-whole limit (Total t) k n e = go (ltb limit t) refl (leb t k) refl e
         let s : t ≡ n = whole-same e in
         (ap Total s, omega (arith, ltb-false limit t p), omega (arith, leb-true t k q))
 
-pub seen-whole : (limit : ℕ) (d : List ℕ) (n : ℕ) → seenOf limit d ≡ Whole n → Stands limit d n
+pub seen-whole : (F : Family) (laws : Lawful F) (limit : ℕ) (d : List ℕ) (n : ℕ) → seenOf F limit d ≡ Whole n → Stands F limit d n
 unfolding seenOf
-seen-whole limit d n e =
-    let f = front-whole limit (sizeOf d) (length d) n e in
-    record { told = f .0; within = f .1; there = f .2; least = total-least d n (f .0) }
+seen-whole F laws limit d n e =
+    let f = front-whole limit (F .size d) (length d) n e in
+    record { told = f .0; within = f .1; there = f .2; some = omega (arith, laws .total-least d n (f .0), laws .least-some); least = laws .total-least d n (f .0) }
 
 -- what a turn needs of the walk behind it is its answer behind a whole packet
 turn-same : (s : Seen) (d : List ℕ) (f g : List ℕ → Walked) → ((n : ℕ) → s ≡ Whole n → f (drop n d) ≡ g (drop n d)) → turn s d f ≡ turn s d g
@@ -63,94 +64,96 @@ unfolding turn
 turn-same (Stop e) d f g h = refl
 turn-same (Whole n) d f g h = rw (h n refl)
 
-shorter : (limit : ℕ) (d : List ℕ) (n : ℕ) → seenOf limit d ≡ Whole n → length (drop n d) < length d
-shorter limit d n e = let s = seen-whole limit d n e in simp length-drop (omega arith)
+shorter : (F : Family) (laws : Lawful F) (limit : ℕ) (d : List ℕ) (n : ℕ) → seenOf F limit d ≡ Whole n → length (drop n d) < length d
+shorter F laws limit d n e = let s = seen-whole F laws limit d n e in simp length-drop (omega arith)
 
-enough : (limit f g : ℕ) (d : List ℕ) → length d < f → length d < g → turns limit f d ≡ turns limit g d
+enough : (F : Family) (laws : Lawful F) (limit f g : ℕ) (d : List ℕ) → length d < f → length d < g → turns F limit f d ≡ turns F limit g d
 unfolding turns
-enough limit zero g d hf hg = absurd (omega arith)
-enough limit (suc f) zero d hf hg = absurd (omega arith)
-enough limit (suc f) (suc g) d hf hg =
-    turn-same (seenOf limit d) d (turns limit f) (turns limit g)
-    (λ n e. enough limit f g (drop n d) (omega (arith, shorter limit d n e)) (omega (arith, shorter limit d n e)))
+enough F laws limit zero g d hf hg = absurd (omega arith)
+enough F laws limit (suc f) zero d hf hg = absurd (omega arith)
+enough F laws limit (suc f) (suc g) d hf hg =
+    turn-same (seenOf F limit d) d (turns F limit f) (turns F limit g)
+    (λ n e. enough F laws limit f g (drop n d) (omega (arith, shorter F laws limit d n e)) (omega (arith, shorter F laws limit d n e)))
 
 -- one turn of the walk
-pub walk-turn : (limit : ℕ) (d : List ℕ) → walkOf limit d ≡ turn (seenOf limit d) d (walkOf limit)
+pub walk-turn : (F : Family) (laws : Lawful F) (limit : ℕ) (d : List ℕ) → walkOf F limit d ≡ turn (seenOf F limit d) d (walkOf F limit)
 unfolding walkOf turns
-walk-turn limit d =
-    turn-same (seenOf limit d) d (turns limit (length d)) (walkOf limit)
-    (λ n e. enough limit (length d) (suc (length (drop n d))) (drop n d) (shorter limit d n e) (omega arith))
+walk-turn F laws limit d =
+    turn-same (seenOf F limit d) d (turns F limit (length d)) (walkOf F limit)
+    (λ n e. enough F laws limit (length d) (suc (length (drop n d))) (drop n d) (shorter F laws limit d n e) (omega arith))
 
-pub walk-stop : (limit : ℕ) (d : List ℕ) (e : End) → seenOf limit d ≡ Stop e → walkOf limit d ≡ record { whole = []; end = e; rest = cutOf e d }
+pub walk-stop : (F : Family) (laws : Lawful F) (limit : ℕ) (d : List ℕ) (e : End) → seenOf F limit d ≡ Stop e → walkOf F limit d ≡ record { whole = []; end = e; rest = cutOf e d }
 unfolding turn
-walk-stop limit d e s = walk-turn limit d ∙ ap (λ (x : Seen). turn x d (walkOf limit)) s
+walk-stop F laws limit d e s = walk-turn F laws limit d ∙ ap (λ (x : Seen). turn x d (walkOf F limit)) s
 
-pub walk-whole : (limit : ℕ) (d : List ℕ) (n : ℕ) → seenOf limit d ≡ Whole n
-    → walkOf limit d
-    ≡ record { whole = take n d ∷ walkOf limit (drop n d) .whole; end = walkOf limit (drop n d) .end; rest = walkOf limit (drop n d) .rest }
+pub walk-whole : (F : Family) (laws : Lawful F) (limit : ℕ) (d : List ℕ) (n : ℕ) → seenOf F limit d ≡ Whole n
+    → walkOf F limit d
+    ≡ record { whole = take n d ∷ walkOf F limit (drop n d) .whole; end = walkOf F limit (drop n d) .end; rest = walkOf F limit (drop n d) .rest }
 unfolding turn
-walk-whole limit d n s = walk-turn limit d ∙ ap (λ (x : Seen). turn x d (walkOf limit)) s
+walk-whole F laws limit d n s = walk-turn F laws limit d ∙ ap (λ (x : Seen). turn x d (walkOf F limit)) s
 
 -- what holds where a walk ends, and goes from behind a whole packet to its front, holds of every walk
-by-front : (limit : ℕ) (P : List ℕ → Type 0) (d : List ℕ) (s : Seen) → seenOf limit d ≡ s
-    → ((e : End) → seenOf limit d ≡ Stop e → P d) → ((n : ℕ) → seenOf limit d ≡ Whole n → P d) → P d
-by-front limit P d (Stop e) p stop whole = stop e p
-by-front limit P d (Whole n) p stop whole = whole n p
+by-front : (F : Family) (limit : ℕ) (P : List ℕ → Type 0) (d : List ℕ) (s : Seen) → seenOf F limit d ≡ s
+    → ((e : End) → seenOf F limit d ≡ Stop e → P d) → ((n : ℕ) → seenOf F limit d ≡ Whole n → P d) → P d
+by-front F limit P d (Stop e) p stop whole = stop e p
+by-front F limit P d (Whole n) p stop whole = whole n p
 
-walk-within : (limit : ℕ) (P : List ℕ → Type 0) → ((d : List ℕ) (e : End) → seenOf limit d ≡ Stop e → P d)
-    → ((d : List ℕ) (n : ℕ) → seenOf limit d ≡ Whole n → P (drop n d) → P d) → (f : ℕ) (d : List ℕ) → length d < f → P d
-walk-within limit P stop whole zero d h = absurd (omega arith)
-walk-within limit P stop whole (suc f) d h =
-    by-front limit P d (seenOf limit d) refl (stop d)
-    (λ n e. whole d n e (walk-within limit P stop whole f (drop n d) (omega (arith, shorter limit d n e))))
+walk-within : (F : Family) (laws : Lawful F) (limit : ℕ) (P : List ℕ → Type 0) → ((d : List ℕ) (e : End) → seenOf F limit d ≡ Stop e → P d)
+    → ((d : List ℕ) (n : ℕ) → seenOf F limit d ≡ Whole n → P (drop n d) → P d) → (f : ℕ) (d : List ℕ) → length d < f → P d
+walk-within F laws limit P stop whole zero d h = absurd (omega arith)
+walk-within F laws limit P stop whole (suc f) d h =
+    by-front F limit P d (seenOf F limit d) refl (stop d)
+    (λ n e. whole d n e (walk-within F laws limit P stop whole f (drop n d) (omega (arith, shorter F laws limit d n e))))
 
-pub walk-ind : (limit : ℕ) (P : List ℕ → Type 0) → ((d : List ℕ) (e : End) → seenOf limit d ≡ Stop e → P d)
-    → ((d : List ℕ) (n : ℕ) → seenOf limit d ≡ Whole n → P (drop n d) → P d) → (d : List ℕ) → P d
-walk-ind limit P stop whole d = walk-within limit P stop whole (suc (length d)) d (omega arith)
+pub walk-ind : (F : Family) (laws : Lawful F) (limit : ℕ) (P : List ℕ → Type 0) → ((d : List ℕ) (e : End) → seenOf F limit d ≡ Stop e → P d)
+    → ((d : List ℕ) (n : ℕ) → seenOf F limit d ≡ Whole n → P (drop n d) → P d) → (d : List ℕ) → P d
+walk-ind F laws limit P stop whole d = walk-within F laws limit P stop whole (suc (length d)) d (omega arith)
 
--- whole packets give at most as many octets as there were, and are at most one for each seven
-handed-fits : (p : List ℕ) → length (handed p) ≤ length p
+-- whole packets give at most as many octets as there were, and each takes at least those of the least packet
+handed-fits : (F : Family) (p : List ℕ) → length (handed F p) ≤ length p
 unfolding handed
-handed-fits p = go (idleOf p)
+handed-fits F p = go (F .idle p)
   where
     go : (b : Bool) → length (pick b [] p) ≤ length p
     go true = omega arith
     go false = omega arith
 
-pub walk-fits : (limit : ℕ) (d : List ℕ) → length (handedAll (walkOf limit d .whole)) ≤ length d
+pub walk-fits : (F : Family) (laws : Lawful F) (limit : ℕ) (d : List ℕ) → length (handedAll F (walkOf F limit d .whole)) ≤ length d
 unfolding handedAll
-walk-fits limit =
-    walk-ind limit (λ d. length (handedAll (walkOf limit d .whole)) ≤ length d)
-    (λ d e s. rw (walk-stop limit d e s) (omega arith))
+walk-fits F laws limit =
+    walk-ind F laws limit (λ d. length (handedAll F (walkOf F limit d .whole)) ≤ length d)
+    (λ d e s. rw (walk-stop F laws limit d e s) (omega arith))
     (λ d n s h.
-    let t = seen-whole limit d n s in
-    rw (walk-whole limit d n s)
-    (simp length-append (omega (arith, handed-fits (take n d), length-take n d, length-drop n d))))
+    let t = seen-whole F laws limit d n s in
+    rw (walk-whole F laws limit d n s)
+    (simp length-append (omega (arith, handed-fits F (take n d), length-take n d, length-drop n d))))
 
-pub walk-count : (limit : ℕ) (d : List ℕ) → 7 * length (walkOf limit d .whole) ≤ length d
-walk-count limit =
-    walk-ind limit (λ d. 7 * length (walkOf limit d .whole) ≤ length d)
-    (λ d e s. rw (walk-stop limit d e s) (omega arith))
-    (λ d n s h. let t = seen-whole limit d n s in rw (walk-whole limit d n s) (omega (arith, length-drop n d)))
+pub walk-count : (F : Family) (laws : Lawful F) (limit : ℕ) (d : List ℕ) → F .least * length (walkOf F limit d .whole) ≤ length d
+walk-count F laws limit =
+    walk-ind F laws limit (λ d. F .least * length (walkOf F limit d .whole) ≤ length d)
+    (λ d e s. rw (walk-stop F laws limit d e s, mul-zero (F .least)) (omega arith))
+    (λ d n s h.
+    let t = seen-whole F laws limit d n s in
+    rw (walk-whole F laws limit d n s, mul-suc (F .least) (length (walkOf F limit (drop n d) .whole))) (omega (arith, length-drop n d)))
 
 -- the octets of a cut packet are the last of the run, and there is at least one
-pub record CutRest (limit : ℕ) (d : List ℕ) (k : ℕ) : Type 0 where
-  pub last : walkOf limit d .rest ≡ drop (length d - k) d
+pub record CutRest (F : Family) (limit : ℕ) (d : List ℕ) (k : ℕ) : Type 0 where
+  pub last : walkOf F limit d .rest ≡ drop (length d - k) d
   pub some : 1 ≤ k
   pub there : k ≤ length d
 
 -- one more whole packet: the counts and the output
-pub filled-more : (t : Tally) (p : List ℕ) → tallied t p .filled ≡ t .filled + length (handed p)
+pub filled-more : (F : Family) (t : Tally) (p : List ℕ) → tallied F t p .filled ≡ t .filled + length (handed F p)
 unfolding tallied handed
-filled-more t p = go (idleOf p)
+filled-more F t p = go (F .idle p)
   where
     go : (b : Bool) → pick {A = Tally} b (oneIdle t) (oneDelivered t (length p)) .filled ≡ t .filled + length (pick b [] p)
     go true = omega arith
     go false = refl
 
-pub counted-more : (t : Tally) (p : List ℕ) → tallied t p .delivered + tallied t p .idle ≡ t .delivered + t .idle + 1
+pub counted-more : (F : Family) (t : Tally) (p : List ℕ) → tallied F t p .delivered + tallied F t p .idle ≡ t .delivered + t .idle + 1
 unfolding tallied
-counted-more t p = go (idleOf p)
+counted-more F t p = go (F .idle p)
   where
     after : Bool → Tally
     after b = pick b (oneIdle t) (oneDelivered t (length p))
@@ -159,128 +162,128 @@ counted-more t p = go (idleOf p)
     go true = omega arith
     go false = omega arith
 
-pub finished-more : (limit : ℕ) (t : Tally) (d : List ℕ) (n : ℕ) → seenOf limit d ≡ Whole n
-    → finished (tallied t (take n d)) (walkOf limit (drop n d)) ≡ finished t (walkOf limit d)
+pub finished-more : (F : Family) (laws : Lawful F) (limit : ℕ) (t : Tally) (d : List ℕ) (n : ℕ) → seenOf F limit d ≡ Whole n
+    → finished F (tallied F t (take n d)) (walkOf F limit (drop n d)) ≡ finished F t (walkOf F limit d)
 unfolding finished talliedAll
-finished-more limit t d n s = rw (walk-whole limit d n s)
+finished-more F laws limit t d n s = rw (walk-whole F laws limit d n s)
 
-pub output-more : (limit : ℕ) (t : Tally) (d out : List ℕ) (n : ℕ) → seenOf limit d ≡ Whole n → t .filled + length d ≤ length out
-    → laid (laid out (t .filled) (handed (take n d))) (tallied t (take n d) .filled) (handedAll (walkOf limit (drop n d) .whole))
-    ≡ laid out (t .filled) (handedAll (walkOf limit d .whole))
+pub output-more : (F : Family) (laws : Lawful F) (limit : ℕ) (t : Tally) (d out : List ℕ) (n : ℕ) → seenOf F limit d ≡ Whole n → t .filled + length d ≤ length out
+    → laid (laid out (t .filled) (handed F (take n d))) (tallied F t (take n d) .filled) (handedAll F (walkOf F limit (drop n d) .whole))
+    ≡ laid out (t .filled) (handedAll F (walkOf F limit d .whole))
 unfolding handedAll
-output-more limit t d out n s h =
-    let l : t .filled + length (handed (take n d)) ≤ length out = omega (arith, handed-fits (take n d), length-take n d) in
-    rw (filled-more, walk-whole limit d n s)
-    (laid-behind out (t .filled) (t .filled + length (handed (take n d))) (handed (take n d)) (handedAll (walkOf limit (drop n d) .whole)) l refl)
+output-more F laws limit t d out n s h =
+    let l : t .filled + length (handed F (take n d)) ≤ length out = omega (arith, handed-fits F (take n d), length-take n d) in
+    rw (filled-more, walk-whole F laws limit d n s)
+    (laid-behind out (t .filled) (t .filled + length (handed F (take n d))) (handed F (take n d)) (handedAll F (walkOf F limit (drop n d) .whole)) l refl)
 
-pub finished-stop : (limit : ℕ) (t : Tally) (d : List ℕ) (e : End) → seenOf limit d ≡ Stop e
-    → record { tally = t; end = e } ≡ finished t (walkOf limit d)
+pub finished-stop : (F : Family) (laws : Lawful F) (limit : ℕ) (t : Tally) (d : List ℕ) (e : End) → seenOf F limit d ≡ Stop e
+    → record { tally = t; end = e } ≡ finished F t (walkOf F limit d)
 unfolding finished talliedAll
-finished-stop limit t d e s = rw (walk-stop limit d e s)
+finished-stop F laws limit t d e s = rw (walk-stop F laws limit d e s)
 
-pub output-stop : (limit : ℕ) (d out : List ℕ) (e : End) (at : ℕ) → seenOf limit d ≡ Stop e
-    → out ≡ laid out at (handedAll (walkOf limit d .whole))
+pub output-stop : (F : Family) (laws : Lawful F) (limit : ℕ) (d out : List ℕ) (e : End) (at : ℕ) → seenOf F limit d ≡ Stop e
+    → out ≡ laid out at (handedAll F (walkOf F limit d .whole))
 unfolding handedAll
-output-stop limit d out e at s = rw (walk-stop limit d e s) (sym (laid-nil out at))
+output-stop F laws limit d out e at s = rw (walk-stop F laws limit d e s) (sym (laid-nil out at))
 
 -- a whole packet that is idle, and one that is not
-pub idle-tally : (t : Tally) (p : List ℕ) → idleOf p ≡ true → oneIdle t ≡ tallied t p
+pub idle-tally : (F : Family) (t : Tally) (p : List ℕ) → F .idle p ≡ true → oneIdle t ≡ tallied F t p
 unfolding tallied
-idle-tally t p e = rw e
+idle-tally F t p e = rw e
 
-pub idle-output : (out p : List ℕ) (at : ℕ) → idleOf p ≡ true → out ≡ laid out at (handed p)
+pub idle-output : (F : Family) (out p : List ℕ) (at : ℕ) → F .idle p ≡ true → out ≡ laid out at (handed F p)
 unfolding handed
-idle-output out p at e = rw e (sym (laid-nil out at))
+idle-output F out p at e = rw e (sym (laid-nil out at))
 
-pub delivered-tally : (t : Tally) (p : List ℕ) → idleOf p ≡ false → oneDelivered t (length p) ≡ tallied t p
+pub delivered-tally : (F : Family) (t : Tally) (p : List ℕ) → F .idle p ≡ false → oneDelivered t (length p) ≡ tallied F t p
 unfolding tallied
-delivered-tally t p e = rw e
+delivered-tally F t p e = rw e
 
-pub delivered-output : (out p : List ℕ) (at : ℕ) → idleOf p ≡ false → laid out at p ≡ laid out at (handed p)
+pub delivered-output : (F : Family) (out p : List ℕ) (at : ℕ) → F .idle p ≡ false → laid out at p ≡ laid out at (handed F p)
 unfolding handed
-delivered-output out p at e = rw e
+delivered-output F out p at e = rw e
 
 -- what stands at the front, case by case
-module _ (limit : ℕ) (d : List ℕ) where
-  pub sees-foreign : sizeOf d ≡ Foreign → Stop End.Foreign ≡ seenOf limit d
+module _ (F : Family) (limit : ℕ) (d : List ℕ) where
+  pub sees-foreign : F .size d ≡ Foreign → Stop End.Foreign ≡ seenOf F limit d
   unfolding seenOf front
   sees-foreign e = rw e
 
-  pub sees-end : sizeOf d ≡ Wait → length d ≡ 0 → Stop End.Exact ≡ seenOf limit d
+  pub sees-end : F .size d ≡ Wait → length d ≡ 0 → Stop End.Exact ≡ seenOf F limit d
   unfolding seenOf front
   sees-end e h = rw (e, h)
 
-  pub sees-few : sizeOf d ≡ Wait → (length d ≡ 0 → ⊥) → Stop (End.Cut (length d)) ≡ seenOf limit d
+  pub sees-few : F .size d ≡ Wait → (length d ≡ 0 → ⊥) → Stop (End.Cut (length d)) ≡ seenOf F limit d
   unfolding seenOf front
   sees-few e h = rw (e, ne-eqb (length d) 0 h)
 
-  module _ (n : ℕ) (e : sizeOf d ≡ Total n) where
-    pub sees-oversize : limit < n → Stop (End.Oversize (n - length d)) ≡ seenOf limit d
+  module _ (n : ℕ) (e : F .size d ≡ Total n) where
+    pub sees-oversize : limit < n → Stop (End.Oversize (n - length d)) ≡ seenOf F limit d
     unfolding seenOf front
     sees-oversize h = rw (e, lt-ltb limit n h)
 
-    pub sees-packet : n ≤ limit → n ≤ length d → Whole n ≡ seenOf limit d
+    pub sees-packet : n ≤ limit → n ≤ length d → Whole n ≡ seenOf F limit d
     unfolding seenOf front
     sees-packet h k = rw (e, le-ltb limit n h, le-leb n (length d) k)
 
-    pub sees-cut : n ≤ limit → length d < n → Stop (End.Cut (length d)) ≡ seenOf limit d
+    pub sees-cut : n ≤ limit → length d < n → Stop (End.Cut (length d)) ≡ seenOf F limit d
     unfolding seenOf front
     sees-cut h k = rw (e, le-ltb limit n h, lt-leb n (length d) k)
 
 -- the whole of what is left of the field is looked at
-pub looked : (limit : ℕ) (field : List ℕ) (at : ℕ) (s : Seen) → s ≡ seenOf limit (take (length field - at) (drop at field))
-    → seenOf limit (drop at field) ≡ s
-looked limit field at s e =
-    ap (seenOf limit) (sym (take-all (length field - at) (drop at field) (simp length-drop (omega arith)))) ∙ sym e
+pub looked : (F : Family) (limit : ℕ) (field : List ℕ) (at : ℕ) (s : Seen) → s ≡ seenOf F limit (take (length field - at) (drop at field))
+    → seenOf F limit (drop at field) ≡ s
+looked F limit field at s e =
+    ap (seenOf F limit) (sym (take-all (length field - at) (drop at field) (simp length-drop (omega arith)))) ∙ sym e
 
 -- what every turn of the walk keeps: at place `at`, with the counts t and the output out, the walk comes to what it came to from the start
-pub record Kept (limit : ℕ) (field : List ℕ) (from : ℕ) (out₀ : List ℕ) (t₀ : Tally) (out : List ℕ) (t : Tally) (at : ℕ) : Type 0 where
+pub record Kept (F : Family) (limit : ℕ) (field : List ℕ) (from : ℕ) (out₀ : List ℕ) (t₀ : Tally) (out : List ℕ) (t : Tally) (at : ℕ) : Type 0 where
   pub inside : at ≤ length field
   pub length-kept : length out ≡ length out₀
-  pub same : finished t (walkOf limit (drop at field)) ≡ finished t₀ (walkOf limit (drop from field))
-  pub output : laid out (t .filled) (handedAll (walkOf limit (drop at field) .whole))
-      ≡ laid out₀ (t₀ .filled) (handedAll (walkOf limit (drop from field) .whole))
+  pub same : finished F t (walkOf F limit (drop at field)) ≡ finished F t₀ (walkOf F limit (drop from field))
+  pub output : laid out (t .filled) (handedAll F (walkOf F limit (drop at field) .whole))
+      ≡ laid out₀ (t₀ .filled) (handedAll F (walkOf F limit (drop from field) .whole))
   pub room : t .filled + (length field - at) ≤ length out₀
   pub counts : t .delivered + t .idle + (length field - at) ≤ length out₀
 
-module _ (limit : ℕ) (field : List ℕ) (from : ℕ) (out₀ : List ℕ) (t₀ : Tally) where
+module _ (F : Family) (laws : Lawful F) (limit : ℕ) (field : List ℕ) (from : ℕ) (out₀ : List ℕ) (t₀ : Tally) where
   pub kept-start : from ≤ length field → t₀ .filled + (length field - from) ≤ length out₀
-      → t₀ .delivered + t₀ .idle + (length field - from) ≤ length out₀ → Kept limit field from out₀ t₀ out₀ t₀ from
+      → t₀ .delivered + t₀ .idle + (length field - from) ≤ length out₀ → Kept F limit field from out₀ t₀ out₀ t₀ from
   kept-start h r c = record { inside = h; length-kept = refl; same = refl; output = refl; room = r; counts = c }
 
-  module _ (out : List ℕ) (t : Tally) (at : ℕ) (k : Kept limit field from out₀ t₀ out t at) where
+  module _ (out : List ℕ) (t : Tally) (at : ℕ) (k : Kept F limit field from out₀ t₀ out t at) where
     -- a whole packet was handed out
-    pub kept-more : (n : ℕ) (out′ : List ℕ) (t′ : Tally) → seenOf limit (drop at field) ≡ Whole n
-        → t′ ≡ tallied t (take (at + n - at) (drop at field)) → out′ ≡ laid out (t .filled) (handed (take (at + n - at) (drop at field)))
-        → Kept limit field from out₀ t₀ out′ t′ (at + n)
+    pub kept-more : (n : ℕ) (out′ : List ℕ) (t′ : Tally) → seenOf F limit (drop at field) ≡ Whole n
+        → t′ ≡ tallied F t (take (at + n - at) (drop at field)) → out′ ≡ laid out (t .filled) (handed F (take (at + n - at) (drop at field)))
+        → Kept F limit field from out₀ t₀ out′ t′ (at + n)
     kept-more n out′ t′ s et eo =
         let d : List ℕ = drop at field in
-        let st = seen-whole limit d n s in
+        let st = seen-whole F laws limit d n s in
         let ld = length-drop at field in
         let en : at + n - at ≡ n = omega arith in
         let p : take (at + n - at) d ≡ take n d = ap (λ (m : ℕ). take m d) en in
-        let et′ : t′ ≡ tallied t (take n d) = et ∙ ap (tallied t) p in
-        let eo′ : out′ ≡ laid out (t .filled) (handed (take n d)) = eo ∙ ap (λ (q : List ℕ). laid out (t .filled) (handed q)) p in
+        let et′ : t′ ≡ tallied F t (take n d) = et ∙ ap (tallied F t) p in
+        let eo′ : out′ ≡ laid out (t .filled) (handed F (take n d)) = eo ∙ ap (λ (q : List ℕ). laid out (t .filled) (handed F q)) p in
         let on : drop (at + n) field ≡ drop n d = sym (drop-drop n at field) in
         let room : t .filled + length d ≤ length out = omega (arith, k .length-kept, k .room, k .inside) in
-        let lh : t .filled + length (handed (take n d)) ≤ length out = omega (arith, handed-fits (take n d), length-take n d) in
-        let lf : t′ .filled ≡ t .filled + length (handed (take n d)) = ap (λ (x : Tally). x .filled) et′ ∙ filled-more t (take n d) in
+        let lh : t .filled + length (handed F (take n d)) ≤ length out = omega (arith, handed-fits F (take n d), length-take n d) in
+        let lf : t′ .filled ≡ t .filled + length (handed F (take n d)) = ap (λ (x : Tally). x .filled) et′ ∙ filled-more F t (take n d) in
         let lc : t′ .delivered + t′ .idle ≡ t .delivered + t .idle + 1 =
-        ap (λ (x : Tally). x .delivered + x .idle) et′ ∙ counted-more t (take n d) in
+        ap (λ (x : Tally). x .delivered + x .idle) et′ ∙ counted-more F t (take n d) in
         record {
           inside = omega (arith, st .there, k .inside);
-          length-kept = ap length eo′ ∙ length-laid out (t .filled) (handed (take n d)) lh ∙ k .length-kept;
-          same = rw (on, et′) (finished-more limit t d n s ∙ k .same);
-          output = rw (on, eo′, et′) (output-more limit t d out n s room ∙ k .output);
-          room = omega (arith, handed-fits (take n d), length-take n d, st .there, k .room, k .inside);
-          counts = omega (arith, st .there, st .least, k .counts, k .inside);
+          length-kept = ap length eo′ ∙ length-laid out (t .filled) (handed F (take n d)) lh ∙ k .length-kept;
+          same = rw (on, et′) (finished-more F laws limit t d n s ∙ k .same);
+          output = rw (on, eo′, et′) (output-more F laws limit t d out n s room ∙ k .output);
+          room = omega (arith, handed-fits F (take n d), length-take n d, st .there, k .room, k .inside);
+          counts = omega (arith, st .there, st .some, k .counts, k .inside);
         }
 
     -- the walk ended
-    pub kept-end : (e : End) → seenOf limit (drop at field) ≡ Stop e
-        → (record { tally = t; end = e } ≡ finished t₀ (walkOf limit (drop from field)))
-        × (out ≡ laid out₀ (t₀ .filled) (handedAll (walkOf limit (drop from field) .whole)))
+    pub kept-end : (e : End) → seenOf F limit (drop at field) ≡ Stop e
+        → (record { tally = t; end = e } ≡ finished F t₀ (walkOf F limit (drop from field)))
+        × (out ≡ laid out₀ (t₀ .filled) (handedAll F (walkOf F limit (drop from field) .whole)))
     kept-end e s = (
-      finished-stop limit t (drop at field) e s ∙ k .same,
-      output-stop limit (drop at field) out e (t .filled) s ∙ k .output,
+      finished-stop F laws limit t (drop at field) e s ∙ k .same,
+      output-stop F laws limit (drop at field) out e (t .filled) s ∙ k .output,
     )

@@ -1,4 +1,4 @@
--- What an accepted frame does (01, steps 1 to 5), over the limit of a delivered packet. D is the length of the data field.
+-- What an accepted frame does (01, steps 1 to 5), over a packet family and the limit of a delivered packet. D is the length of the data field.
 use mathlib.Core.Bool.{Bool, true, false, not, _||_}
 use mathlib.Core.List.{List, [], _++_}
 use mathlib.Core.Logic.{_⊎_}
@@ -8,7 +8,8 @@ use lib.Dec.{eqb, ltb, leb}
 use lib.ListN.{length, take, drop}
 use Rattle.octets.specs.Laid.{laid}
 use Rattle.octets.specs.Pick.{pick}
-use Rattle.packet.specs.Size.{sizeOf, formatMost}
+use Rattle.packet.specs.Family.{Family}
+use Rattle.packet.specs.Size.{formatMost}
 use Rattle.packet.specs.declared.source.Size.{Size}
 use Rattle.packet.specs.declared.source.Size.the-variants.{Wait, Foreign, Total}
 use Rattle.frame.specs.Counts.{gapOf}
@@ -54,8 +55,8 @@ abbrev pub ended : Walked → Done
 ended w = endedBy (w .end) (w .whole) (w .rest)
 
 -- step 4: "pointer 2047 ends the call; otherwise start at the pointer"
-unfoldable pub hunted : ℕ → List ℕ → ℕ → Done
-hunted limit field pointer = pick (eqb pointer noneStarts) (only Hunting) (ended (walkOf limit (drop pointer field)))
+unfoldable pub hunted : Family → ℕ → List ℕ → ℕ → Done
+hunted F limit field pointer = pick (eqb pointer noneStarts) (only Hunting) (ended (walkOf F limit (drop pointer field)))
 
 -- "a packet under way (k at least 1, or skipping) counts as broken 1"
 abbrev pub brokenBy : State → ℕ
@@ -103,24 +104,24 @@ agrees D k s pointer = pick (eqb k 0) (eqb pointer (calledAt D 0)) (agreesBy D k
 
 -- gathering k octets, of a packet whose held octets and the field tell s: "Otherwise disagreement 1, broken 1 if one was under way
 -- (which then counts nowhere else, oversize included), and the channel hunts"
-unfoldable pub gathered : ℕ → List ℕ → List ℕ → ℕ → ℕ → Size → Done
-gathered limit part field pointer k s =
+unfoldable pub gathered : Family → ℕ → List ℕ → List ℕ → ℕ → ℕ → Size → Done
+gathered F limit part field pointer k s =
     pick (agrees (length field) k s pointer)
-    (ended (walkOf limit (take k part ++ field)))
-    (disagreed (Gathering k) (hunted limit field pointer))
+    (ended (walkOf F limit (take k part ++ field)))
+    (disagreed (Gathering k) (hunted F limit field pointer))
 
 -- skipping r octets: "the end of a skip counts nothing"
-unfoldable pub skipped : ℕ → List ℕ → ℕ → ℕ → Done
-skipped limit field pointer r =
+unfoldable pub skipped : Family → ℕ → List ℕ → ℕ → ℕ → Done
+skipped F limit field pointer r =
     pick (eqb pointer (calledAt (length field) r))
-    (pick (leb r (length field)) (ended (walkOf limit (drop r field))) (only (Skipping (r - length field))))
-    (disagreed (Skipping r) (hunted limit field pointer))
+    (pick (leb r (length field)) (ended (walkOf F limit (drop r field))) (only (Skipping (r - length field))))
+    (disagreed (Skipping r) (hunted F limit field pointer))
 
 -- steps 3 to 5, by the channel's state
-unfoldable pub resumed : ℕ → List ℕ → List ℕ → ℕ → State → Done
-resumed limit part field pointer Hunting = hunted limit field pointer
-resumed limit part field pointer (Gathering k) = gathered limit part field pointer k (sizeOf (take k part ++ field))
-resumed limit part field pointer (Skipping r) = skipped limit field pointer r
+unfoldable pub resumed : Family → ℕ → List ℕ → List ℕ → ℕ → State → Done
+resumed F limit part field pointer Hunting = hunted F limit field pointer
+resumed F limit part field pointer (Gathering k) = gathered F limit part field pointer k (F .size (take k part ++ field))
+resumed F limit part field pointer (Skipping r) = skipped F limit field pointer r
 
 -- step 1: "Gap: 0 if unheard, else (count - last - 1) modulo 256"
 unfoldable pub gapFor : Channel → Header → ℕ
@@ -132,17 +133,17 @@ carriesNone h = h .synchronisation || eqb (h .pointer) idleData
 
 -- step 2: "If the gap is not 0, or the frame is idle, or [..] private [..], the channel hunts; a packet under way [..] counts as
 -- broken 1. Idle and private frames end here, hunting."
-unfoldable pub stepsOf : ℕ → List ℕ → List ℕ → Header → Channel → Done
-stepsOf limit part field h c =
+unfoldable pub stepsOf : Family → ℕ → List ℕ → List ℕ → Header → Channel → Done
+stepsOf F limit part field h c =
     pick (carriesNone h) (broke (c .state) (only Hunting))
-    (pick (not (eqb (gapFor c h) 0)) (broke (c .state) (hunted limit field (h .pointer)))
-    (resumed limit part field (h .pointer) (c .state)))
+    (pick (not (eqb (gapFor c h) 0)) (broke (c .state) (hunted F limit field (h .pointer)))
+    (resumed F limit part field (h .pointer) (c .state)))
 
 -- what the code reports of this: the counts of packets and the rest
-unfoldable pub courseOf : Done → Course
-courseOf d =
+unfoldable pub courseOf : Family → Done → Course
+courseOf F d =
     record {
-      tally = talliedAll noTally (d .whole);
+      tally = talliedAll F noTally (d .whole);
       state = d .state;
       broken = d .broken;
       disagreement = d .disagreement;
@@ -185,10 +186,10 @@ disagreedCourse s c =
     record { tally = c .tally; state = c .state; broken = brokenBy s; disagreement = 1; foreign = c .foreign; oversize = c .oversize }
 
 -- what a part of the steps must report and leave in the channel's part of the store and in the output
-pub record Did (d : Done) (course : Course) (part part′ out out′ : List ℕ) : Type 0 where
-  pub reports : course ≡ courseOf d
+pub record Did (F : Family) (d : Done) (course : Course) (part part′ out out′ : List ℕ) : Type 0 where
+  pub reports : course ≡ courseOf F d
   pub holds : part′ ≡ laid part 0 (d .held)
-  pub hands : out′ ≡ laid out 0 (handedAll (d .whole))
+  pub hands : out′ ≡ laid out 0 (handedAll F (d .whole))
 
 -- what the steps may rely on: the limit is at least the longest frame and at most the format's own; the part has `limit` octets, the field
 -- one or more, the output room for both, and the pointer passed test 12

@@ -1,11 +1,11 @@
--- The walk from packet to packet (01, step 5), over the limit of a delivered packet.
+-- The walk from packet to packet (01, step 5), over a packet family and the limit of a delivered packet.
 use mathlib.Core.Bool.{Bool, true, false}
 use mathlib.Core.List.{List, [], _∷_, _++_}
 use Prim.Native.Nat.{ℕ, zero, suc, _+_, _-_}
 use lib.Dec.{eqb, ltb, leb}
 use lib.ListN.{length, take, drop}
 use Rattle.octets.specs.Pick.{pick}
-use Rattle.packet.specs.Size.{sizeOf, idleOf}
+use Rattle.packet.specs.Family.{Family}
 use Rattle.packet.specs.declared.source.Size.{Size}
 use Rattle.packet.specs.declared.source.Size.the-variants.{Wait, Foreign, Total}
 use Rattle.walk.specs.declared.walking.End.{End}
@@ -23,8 +23,8 @@ front limit (Total t) n =
     pick (ltb limit t) (Stop (End.Oversize (t - n)))
     (pick (leb t n) (Whole t) (Stop (End.Cut n)))
 
-unfoldable pub seenOf : ℕ → List ℕ → Seen
-seenOf limit d = front limit (sizeOf d) (length d)
+unfoldable pub seenOf : Family → ℕ → List ℕ → Seen
+seenOf F limit d = front limit (F .size d) (length d)
 
 -- what a run of octets holds: its whole packets in order, why the walk ended, and the octets of a packet that was cut
 pub record Walked : Type 0 where
@@ -47,21 +47,21 @@ turn (Whole n) d on =
     record { whole = take n d ∷ w .whole; end = w .end; rest = w .rest }
 
 -- at most so many turns; no packet is shorter than an octet, so that as many turns as octets, and one, are enough
-unfoldable pub turns : ℕ → ℕ → List ℕ → Walked
-turns limit zero d = record { whole = []; end = End.Exact; rest = [] }
-turns limit (suc f) d = turn (seenOf limit d) d (turns limit f)
+unfoldable pub turns : Family → ℕ → ℕ → List ℕ → Walked
+turns F limit zero d = record { whole = []; end = End.Exact; rest = [] }
+turns F limit (suc f) d = turn (seenOf F limit d) d (turns F limit f)
 
-unfoldable pub walkOf : ℕ → List ℕ → Walked
-walkOf limit d = turns limit (suc (length d)) d
+unfoldable pub walkOf : Family → ℕ → List ℕ → Walked
+walkOf F limit d = turns F limit (suc (length d)) d
 
 -- "A finished packet is delivered, or counted if idle": the octets that it gives to the output
-unfoldable pub handed : List ℕ → List ℕ
-handed p = pick (idleOf p) [] p
+unfoldable pub handed : Family → List ℕ → List ℕ
+handed F p = pick (F .idle p) [] p
 
 -- "Delivered packets stand end to end"
-unfoldable pub handedAll : List (List ℕ) → List ℕ
-handedAll [] = []
-handedAll (p ∷ ps) = handed p ++ handedAll ps
+unfoldable pub handedAll : Family → List (List ℕ) → List ℕ
+handedAll F [] = []
+handedAll F (p ∷ ps) = handed F p ++ handedAll F ps
 
 -- no packet yet
 abbrev pub noTally : Tally
@@ -75,13 +75,13 @@ abbrev pub oneDelivered : Tally → ℕ → Tally
 oneDelivered t n = record { delivered = t .delivered + 1; idle = t .idle; filled = t .filled + n }
 
 -- the counts after one more whole packet, and after all of them
-unfoldable pub tallied : Tally → List ℕ → Tally
-tallied t p = pick (idleOf p) (oneIdle t) (oneDelivered t (length p))
+unfoldable pub tallied : Family → Tally → List ℕ → Tally
+tallied F t p = pick (F .idle p) (oneIdle t) (oneDelivered t (length p))
 
-unfoldable pub talliedAll : Tally → List (List ℕ) → Tally
-talliedAll t [] = t
-talliedAll t (p ∷ ps) = talliedAll (tallied t p) ps
+unfoldable pub talliedAll : Family → Tally → List (List ℕ) → Tally
+talliedAll F t [] = t
+talliedAll F t (p ∷ ps) = talliedAll F (tallied F t p) ps
 
 -- what a walk that starts with counts t comes to
-unfoldable pub finished : Tally → Walked → Ended
-finished t w = record { tally = talliedAll t (w .whole); end = w .end }
+unfoldable pub finished : Family → Tally → Walked → Ended
+finished F t w = record { tally = talliedAll F t (w .whole); end = w .end }

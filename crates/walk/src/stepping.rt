@@ -14,7 +14,7 @@ ghost use Prim.Native.Nat.{_+_, _-_, _≤_, _<_};
 ghost use lib.ListN.{length, take, drop};
 ghost use Rattle.octets.specs.Laid.{laid};
 ghost use Rattle.octets.specs.Pick.{pick};
-ghost use Rattle.packet.specs.Size.{formatMost, least, sizeOf};
+ghost use Rattle.packet.specs.Size.{formatMost, least, sizeOf, source};
 ghost use Rattle.channel.specs.Busy.{busyState};
 ghost use Rattle.channel.specs.Rules.{channelFollows, stateFollows};
 ghost use Rattle.frame.specs.Opening.{idleData};
@@ -87,7 +87,7 @@ fn settle(field: &[u8], e: Ended, part: &mut [u8]) -> Course
 fn hunt(field: &[u8], pointer: usize, limit: usize, part: &mut [u8], out: &mut [u8]) -> Course
     requires { ⌜ Fit limit (now part) (now field) pointer (now out) ⌝ }
     requires { ⌜ (pointer ≡ idleData → ⊥) ⌝ }
-    ensures { λ r. ⌜ Did (hunted limit (now (field .entry)) pointer) r (now (part .entry)) (now (part .exit)) (now (out .entry)) (now (out .exit)) ⌝ }
+    ensures { λ r. ⌜ Did source (hunted source limit (now (field .entry)) pointer) r (now (part .entry)) (now (part .exit)) (now (out .entry)) (now (out .exit)) ⌝ }
 {
     if pointer == Header::NONE {
         return plain(none_yet(), State::Hunting, 0, 0);
@@ -99,8 +99,8 @@ fn hunt(field: &[u8], pointer: usize, limit: usize, part: &mut [u8], out: &mut [
 // Delivers, or counts if it is idle, a packet of `total` octets that began with the held ones and ends in the field.
 fn finish(held: &[u8], field: &[u8], total: usize, out: &mut [u8]) -> Tally
     requires { ⌜ (least ≤ total) × (length (now held) ≤ total) × (total ≤ length (now held) + length (now field)) × (total ≤ length (now out)) ⌝ }
-    ensures tally { λ r. ⌜ r ≡ tallied noTally (take total (now (held .entry) ++ now (field .entry))) ⌝ }
-    ensures output { λ _. ⌜ now (out .exit) ≡ laid (now (out .entry)) 0 (handed (take total (now (held .entry) ++ now (field .entry)))) ⌝ }
+    ensures tally { λ r. ⌜ r ≡ tallied source noTally (take total (now (held .entry) ++ now (field .entry))) ⌝ }
+    ensures output { λ _. ⌜ now (out .exit) ≡ laid (now (out .entry)) 0 (handed source (take total (now (held .entry) ++ now (field .entry)))) ⌝ }
 {
     if Packet::idle_across(held, field) {
         return Tally {
@@ -140,8 +140,8 @@ fn gather(
     out: &mut [u8],
 ) -> Course
     requires { ⌜ (length (now part) ≡ limit) × (mostLength ≤ limit) × (limit ≤ formatMost) × (1 ≤ length (now field)) × (length (now field) ≤ mostField) × (limit + mostLength ≤ length (now out)) ⌝ }
-    requires { ⌜ (stateFollows limit (now part) (State.Gathering k) ≡ true) × (size ≡ sizeOf (take k (now part) ++ now field)) ⌝ }
-    ensures { λ r. ⌜ Did (ended (walkOf limit (take k (now (part .entry)) ++ now (field .entry)))) r (now (part .entry)) (now (part .exit)) (now (out .entry)) (now (out .exit)) ⌝ }
+    requires { ⌜ (stateFollows source limit (now part) (State.Gathering k) ≡ true) × (size ≡ sizeOf (take k (now part) ++ now field)) ⌝ }
+    ensures { λ r. ⌜ Did source (ended (walkOf source limit (take k (now (part .entry)) ++ now (field .entry)))) r (now (part .entry)) (now (part .exit)) (now (out .entry)) (now (out .exit)) ⌝ }
 {
     let there = k + field.len();
     match size {
@@ -234,8 +234,8 @@ fn resume_gathering(
 ) -> Course
     requires { ⌜ Fit limit (now part) (now field) pointer (now out) ⌝ }
     requires { ⌜ (pointer ≡ idleData → ⊥) ⌝ }
-    requires { ⌜ stateFollows limit (now part) (State.Gathering k) ≡ true ⌝ }
-    ensures { λ r. ⌜ Did (resumed limit (now (part .entry)) (now (field .entry)) pointer (State.Gathering k)) r (now (part .entry)) (now (part .exit)) (now (out .entry)) (now (out .exit)) ⌝ }
+    requires { ⌜ stateFollows source limit (now part) (State.Gathering k) ≡ true ⌝ }
+    ensures { λ r. ⌜ Did source (resumed source limit (now (part .entry)) (now (field .entry)) pointer (State.Gathering k)) r (now (part .entry)) (now (part .exit)) (now (out .entry)) (now (out .exit)) ⌝ }
 {
     let size = Packet::size_across(&part[..k], field);
     if agreeing(field.len(), k, size, pointer) {
@@ -254,7 +254,7 @@ fn resume_skipping(
 ) -> Course
     requires { ⌜ Fit limit (now part) (now field) pointer (now out) ⌝ }
     requires { ⌜ (pointer ≡ idleData → ⊥) ⌝ }
-    ensures { λ c. ⌜ Did (resumed limit (now (part .entry)) (now (field .entry)) pointer (State.Skipping r)) c (now (part .entry)) (now (part .exit)) (now (out .entry)) (now (out .exit)) ⌝ }
+    ensures { λ c. ⌜ Did source (resumed source limit (now (part .entry)) (now (field .entry)) pointer (State.Skipping r)) c (now (part .entry)) (now (part .exit)) (now (out .entry)) (now (out .exit)) ⌝ }
 {
     let d = field.len();
     if pointer != called_at(d, r) {
@@ -278,8 +278,8 @@ fn resume(
 ) -> Course
     requires { ⌜ Fit limit (now part) (now field) pointer (now out) ⌝ }
     requires { ⌜ (pointer ≡ idleData → ⊥) ⌝ }
-    requires { ⌜ stateFollows limit (now part) state ≡ true ⌝ }
-    ensures { λ r. ⌜ Did (resumed limit (now (part .entry)) (now (field .entry)) pointer state) r (now (part .entry)) (now (part .exit)) (now (out .entry)) (now (out .exit)) ⌝ }
+    requires { ⌜ stateFollows source limit (now part) state ≡ true ⌝ }
+    ensures { λ r. ⌜ Did source (resumed source limit (now (part .entry)) (now (field .entry)) pointer state) r (now (part .entry)) (now (part .exit)) (now (out .entry)) (now (out .exit)) ⌝ }
 {
     match state {
         State::Hunting => hunt(field, pointer, limit, part, out),
@@ -322,8 +322,8 @@ pub fn steps(
     out: &mut [u8],
 ) -> Course
     requires { ⌜ (h .synchronisation ≡ false → Fit limit (now part) (now field) (h .pointer) (now out)) ⌝ }
-    requires { ⌜ (channelFollows limit (now part) channel ≡ true) × (gap ≡ gapFor channel h) ⌝ }
-    ensures { λ r. ⌜ Did (stepsOf limit (now (part .entry)) (now (field .entry)) h channel) r (now (part .entry)) (now (part .exit)) (now (out .entry)) (now (out .exit)) ⌝ }
+    requires { ⌜ (channelFollows source limit (now part) channel ≡ true) × (gap ≡ gapFor channel h) ⌝ }
+    ensures { λ r. ⌜ Did source (stepsOf source limit (now (part .entry)) (now (field .entry)) h channel) r (now (part .entry)) (now (part .exit)) (now (out .entry)) (now (out .exit)) ⌝ }
 {
     let state = channel.state;
     let pointer = h.pointer;

@@ -5,6 +5,7 @@ ghost use mathlib.Core.List.{_++_};
 ghost use Prim.Native.Nat.{_+_, _-_, _≤_, _<_};
 ghost use lib.ListN.{length, take, drop};
 ghost use Rattle.octets.specs.Laid.{laid};
+ghost use Rattle.packet.specs.Size.{source};
 ghost use Rattle.walk.specs.Walk.{seenOf, tallied, handed, walkOf, handedAll, finished};
 
 // Why a walk ended: at another version, exactly at a packet's end, in the midst of a packet of which k octets are there, or in one
@@ -36,7 +37,7 @@ pub struct Ended {
 
 fn look(seen: &[u8], limit: usize) -> Seen
     requires { ⌜ length (now seen) ≤ limit ⌝ }
-    ensures { λ r. ⌜ r ≡ seenOf limit (now (seen .entry)) ⌝ }
+    ensures { λ r. ⌜ r ≡ seenOf source limit (now (seen .entry)) ⌝ }
 {
     let n = seen.len();
     match Packet::size(seen) {
@@ -63,8 +64,8 @@ fn look(seen: &[u8], limit: usize) -> Seen
 // Delivers a whole packet, or counts it if it is idle.
 fn hand_out(packet: &[u8], out: &mut [u8], t: Tally) -> Tally
     requires { ⌜ (2 ≤ length (now packet)) × (t .filled + length (now packet) ≤ length (now out)) × (t .delivered + t .idle < length (now out)) ⌝ }
-    ensures tally { λ r. ⌜ r ≡ tallied t (now (packet .entry)) ⌝ }
-    ensures output { λ _. ⌜ now (out .exit) ≡ laid (now (out .entry)) (t .filled) (handed (now (packet .entry))) ⌝ }
+    ensures tally { λ r. ⌜ r ≡ tallied source t (now (packet .entry)) ⌝ }
+    ensures output { λ _. ⌜ now (out .exit) ≡ laid (now (out .entry)) (t .filled) (handed source (now (packet .entry))) ⌝ }
 {
     if Packet::idle(packet) {
         return Tally {
@@ -85,8 +86,8 @@ fn hand_out(packet: &[u8], out: &mut [u8], t: Tally) -> Tally
 // Step 5, from place `from` of the data field on.
 pub fn walk(field: &[u8], from: usize, limit: usize, out: &mut [u8], start: Tally) -> Ended
     requires { ⌜ (from ≤ length (now field)) × (length (now field) ≤ limit) × (start .filled + (length (now field) - from) ≤ length (now out)) × (start .delivered + start .idle + (length (now field) - from) ≤ length (now out)) ⌝ }
-    ensures answer { λ r. ⌜ r ≡ finished start (walkOf limit (drop from (now (field .entry)))) ⌝ }
-    ensures output { λ _. ⌜ now (out .exit) ≡ laid (now (out .entry)) (start .filled) (handedAll (walkOf limit (drop from (now (field .entry))) .whole)) ⌝ }
+    ensures answer { λ r. ⌜ r ≡ finished source start (walkOf source limit (drop from (now (field .entry)))) ⌝ }
+    ensures output { λ _. ⌜ now (out .exit) ≡ laid (now (out .entry)) (start .filled) (handedAll source (walkOf source limit (drop from (now (field .entry))) .whole)) ⌝ }
 {
     let mut t = start;
     let mut at = from;

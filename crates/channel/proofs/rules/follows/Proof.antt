@@ -6,7 +6,7 @@ use native.Mathlib.Omega.{arith}
 use lib.ListN.{length, drop, length-take, length-drop}
 use borrow.Author.Needs.{needs}
 use borrow.Author.Tests.{not-true, not-false}
-use Rattle.packet.specs.Size.{most}
+use Rattle.packet.specs.Size.{most, source}
 use Rattle.channel.specs.Rules.{recordFollows, allFollow}
 use Rattle.channel.specs.Store.{placeOf}
 use Rattle.channel.proofs.ListLaws.{length-any}
@@ -15,7 +15,7 @@ use Rattle.channel.proofs.rules.follows.Statement.{statement}
 use Rattle.channel.proofs.rules.follows.Tie as tie
 
 abbrev Inv-loop : tie.InvT-loop
-Inv-loop store rec v₀ v = (length (rec .channels) ≡ 8) × (v ≤ 8) × (recordFollows most store rec ≡ allFollow most store v (drop v (rec .channels)))
+Inv-loop store rec v₀ v = (length (rec .channels) ≡ 8) × (v ≤ 8) × (recordFollows source most store rec ≡ allFollow source most store v (drop v (rec .channels)))
 
 abbrev μ-loop : tie.MeasureT-loop
 μ-loop store rec v₀ v = 8 - v
@@ -56,7 +56,7 @@ channel-follows-requires c κs = simp (length-take, length-drop) (omega arith)
 returns : tie.Need-returns Inv-loop μ-loop
 returns c = let l = c .before .before .before .before .before .before .loop in
     let a = c .before .before .before .before .before .before .before .before .args in
-    sym (l .inv .2 ∙ follow-stop most (a .store .now) (a .t1 .channels) (l .v) _ _ _ (omega arith) (c .before .before .before .before .place .ensures)
+    sym (l .inv .2 ∙ follow-stop source most (a .store .now) (a .t1 .channels) (l .v) _ _ _ (omega arith) (c .before .before .before .before .place .ensures)
     (c .before .channel-follows .ensures) (not-true _ (c .if1 .taken)))
 
 add-v : tie.Need-add-v Inv-loop μ-loop
@@ -70,14 +70,14 @@ loop-again c = let l = c .before .before .before .before .before .before .loop i
     let a = c .before .before .before .before .before .before .before .before .args in (
       l .inv .0,
       omega arith,
-      l .inv .2 ∙ follow-next most (a .store .now) (a .t1 .channels) (l .v) _ _ _ (omega arith) (c .before .before .before .before .place .ensures)
+      l .inv .2 ∙ follow-next source most (a .store .now) (a .t1 .channels) (l .v) _ _ _ (omega arith) (c .before .before .before .before .place .ensures)
           (c .before .channel-follows .ensures) (not-false _ (c .if1 .left)),
     )
 
 returns-2 : tie.Need-returns-2 Inv-loop μ-loop
 returns-2 c = let l = c .before .loop in
     let a = c .before .before .before .args in
-    sym (l .inv .2 ∙ follow-end most (a .store .now) (a .t1 .channels) (l .v) (omega arith))
+    sym (l .inv .2 ∙ follow-end source most (a .store .now) (a .t1 .channels) (l .v) (omega arith))
 
 pub follows-spec : {M : Type 1} → statement M
 follows-spec =

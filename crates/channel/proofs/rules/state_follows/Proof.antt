@@ -4,7 +4,7 @@ use mathlib.Core.Path.{_∙_, sym, ap}
 use native.Mathlib.Omega.{arith}
 use lib.Seq.{length-take-le}
 use borrow.Author.Needs.{needs}
-use Rattle.packet.specs.Size.{most}
+use Rattle.packet.specs.Size.{most, source}
 use Rattle.channel.specs.Rules.{judged, stateFollows}
 use Rattle.channel.proofs.RuleLaws.{gathers-below, gathers-above, skips-none, skips-some}
 use Rattle.channel.proofs.rules.state_follows.Statement.{statement}
@@ -37,16 +37,16 @@ returns c = cc
 
 returns-2 : tie.Need-returns-2
 returns-2 c = c .held-follows .ensures ∙ ap (judged most _) (c .before .size .ensures)
-    ∙ gathers-below _ _ _ (c .before .before .before .before .before .state .given .1) (omega arith)
+    ∙ gathers-below source _ _ _ (c .before .before .before .before .before .state .given .1) (omega arith)
 
 returns-3 : tie.Need-returns-3
-returns-3 c = gathers-above _ _ _ (c .before .before .state .given .1) (omega arith)
+returns-3 c = gathers-above source _ _ _ (c .before .before .state .given .1) (omega arith)
 
 returns-4 : tie.Need-returns-4
-returns-4 c = skips-none _ _ _ (c .before .before .state2 .given .1) (omega arith)
+returns-4 c = skips-none source _ _ _ (c .before .before .state2 .given .1) (omega arith)
 
 returns-5 : tie.Need-returns-5
-returns-5 c = skips-some _ _ _ (c .before .before .state2 .given .1) (omega arith)
+returns-5 c = skips-some source _ _ _ (c .before .before .state2 .given .1) (omega arith)
 
 pub state-follows-spec : {M : Type 1} → statement M
 state-follows-spec =

@@ -5,7 +5,7 @@ use mathlib.Core.Bool.{Bool, true, false, not}
 use borrow.Author.Needs.{needs}
 use borrow.Author.Tests.{not-true, not-false}
 use lib.ListN.{length}
-use Rattle.packet.specs.Size.{most}
+use Rattle.packet.specs.Size.{most, source}
 use Rattle.frame.specs.Opening.{frameOf}
 use Rattle.frame.specs.SetUp.{fitsOf}
 use Rattle.frame.specs.Table.{None}
@@ -37,7 +37,7 @@ output-fits c = held (c .before .fits4 .ensures) (c .if3 .left)
 
 record-follows : (c : tie.Else4)
     → let a = c .before .before .before .before .before .before .before .before .before .before .before .before .args in
-    recordFollows most (a .store .now) (a .rec) ≡ true
+    recordFollows source most (a .store .now) (a .rec) ≡ true
 record-follows c = held (c .before .follows .ensures) (c .if4 .left)
 
 -- no cause is found
@@ -48,7 +48,7 @@ none-found c =
     let e4 = c .before .before .before .before in
     let e3 = e4 .before .before .before in
     let e2 = e3 .before .before in
-    at-none _ _ _ _ _ (set-up (e2 .before .before)) (store-fits e2) (output-fits e3) (record-follows e4) _ (cc)
+    at-none source most _ _ _ _ _ (set-up (e2 .before .before)) (store-fits e2) (output-fits e3) (record-follows e4) _ (cc)
 
 fits-requires : tie.Need-fits-requires
 fits-requires c κs = search needs
@@ -58,8 +58,8 @@ refused-requires c κs = search needs
 
 returns : tie.Need-returns
 returns c =
-    refuses _ _ _ _ _ _ _
-    (at-set-up _ _ _ _ _ (failed (c .before .before .fits2 .ensures) (c .before .if1 .taken)))
+    refuses source most _ _ _ _ _ _ _
+    (at-set-up source most _ _ _ _ _ (failed (c .before .before .fits2 .ensures) (c .before .if1 .taken)))
     (c .refused .ensures)
 
 fits-requires-2 : tie.Need-fits-requires-2
@@ -70,8 +70,8 @@ refused-requires-2 c κs = search needs
 
 returns-2 : tie.Need-returns-2
 returns-2 c =
-    refuses _ _ _ _ _ _ _
-    (at-store _ _ _ _ _ (set-up (c .before .before .before)) (failed (c .before .before .fits3 .ensures) (c .before .if2 .taken)))
+    refuses source most _ _ _ _ _ _ _
+    (at-store source most _ _ _ _ _ (set-up (c .before .before .before)) (failed (c .before .before .fits3 .ensures) (c .before .if2 .taken)))
     (c .refused2 .ensures)
 
 fits-requires-3 : tie.Need-fits-requires-3
@@ -83,12 +83,12 @@ refused-requires-3 c κs = search needs
 returns-3 : tie.Need-returns-3
 returns-3 c =
     let e2 = c .before .before .before in
-    refuses _ _ _ _ _ _ _
-    (at-output _ _ _ _ _ (set-up (e2 .before .before)) (store-fits e2) (failed (c .before .before .fits4 .ensures) (c .before .if3 .taken)))
+    refuses source most _ _ _ _ _ _ _
+    (at-output source most _ _ _ _ _ (set-up (e2 .before .before)) (store-fits e2) (failed (c .before .before .fits4 .ensures) (c .before .if3 .taken)))
     (c .refused3 .ensures)
 
 follows-requires : tie.Need-follows-requires
-follows-requires c κs = whole-store _ (store-fits (c .before .before .before))
+follows-requires c κs = whole-store most _ (store-fits (c .before .before .before))
 
 refused-requires-4 : tie.Need-refused-requires-4
 refused-requires-4 c κs = search needs
@@ -100,8 +100,8 @@ returns-4 : tie.Need-returns-4
 returns-4 c =
     let e3 = c .before .before .before .before in
     let e2 = e3 .before .before in
-    refuses _ _ _ _ _ _ _
-    (at-record _ _ _ _ _ (set-up (e2 .before .before)) (store-fits e2) (output-fits e3)
+    refuses source most _ _ _ _ _ _ _
+    (at-record source most _ _ _ _ _ (set-up (e2 .before .before)) (store-fits e2) (output-fits e3)
     (failed (c .before .before .follows .ensures) (c .before .if4 .taken)))
     (c .refused4 .ensures)
 
@@ -118,7 +118,7 @@ enum-known-x : tie.Need-enum-known-x
 enum-known-x c = search needs
 
 accept-requires : tie.Need-accept-requires
-accept-requires c κs = ready _ _ _ _ _ _ (none-found (c .before .before))
+accept-requires c κs = ready source most _ _ _ _ _ _ (none-found (c .before .before))
 
 same-length-2 : tie.Need-same-length-2
 same-length-2 c = search needs
@@ -128,8 +128,8 @@ returns-5 c =
     let e4 = c .before .before .before .before .before in
     let e3 = e4 .before .before .before in
     let e2 = e3 .before .before in
-    refuses _ _ _ _ _ _ _
-    (at-frame _ _ _ _ _ (set-up (e2 .before .before)) (store-fits e2) (output-fits e3) (record-follows e4) _ (cc))
+    refuses source most _ _ _ _ _ _ _
+    (at-frame source most _ _ _ _ _ (set-up (e2 .before .before)) (store-fits e2) (output-fits e3) (record-follows e4) _ (cc))
     (c .refused5 .ensures)
 
 same-length-3 : tie.Need-same-length-3
@@ -139,7 +139,7 @@ same-length-4 : tie.Need-same-length-4
 same-length-4 c = search needs
 
 returns-6 : tie.Need-returns-6
-returns-6 c = accepts _ _ _ _ _ _ (none-found (c .before .before .before .before .before .before .before)) _ _ _ _ (c .before .before .before .before .accept .ensures)
+returns-6 c = accepts source most _ _ _ _ _ _ (none-found (c .before .before .before .before .before .before .before)) _ _ _ _ (c .before .before .before .before .accept .ensures)
 
 pub read-core-spec : {M : Type 1} → statement M
 read-core-spec =

@@ -5,9 +5,9 @@ use mathlib.Core.List.{_++_}
 use Prim.Native.Nat.{_+_, _-_, _≤_, _<_}
 use native.Mathlib.Omega.{arith}
 use lib.ListN.{length, take}
-use Rattle.packet.specs.Size.{sizeOf}
+use Rattle.packet.specs.Size.{sizeOf, source}
 use Rattle.packet.specs.declared.source.Size.the-variants.{Total}
-use Rattle.packet.proofs.Laws.{total-least}
+use Rattle.packet.proofs.Laws.{source-lawful}
 use Rattle.walk.proofs.CutLaws.{cut-fits}
 use Rattle.walk.proofs.DoneLaws.{did-as, did-nothing, did-hold, ended-foreign, ended-oversize}
 use Rattle.walk.proofs.GatherLaws.{did-gather, gather-room, gathers, held-there, length-run, under-way, waits-room}
@@ -66,8 +66,8 @@ plain-requires-2 c κs = search needs
 
 returns : tie.Need-returns
 returns c = let k = c .before .before .before in
-    did-as (ended-oversize _ _ _ _ (told k) (c .before .before .if1 .taken) (run (k .before .before .before .before .before .before)))
-    (did-nothing _ 0 1 _ _ _ _ (c .before .none-yet2 .ensures) (c .plain2 .ensures))
+    did-as (ended-oversize source source-lawful _ _ _ _ (told k) (c .before .before .if1 .taken) (run (k .before .before .before .before .before .before)))
+    (did-nothing source _ 0 1 _ _ _ _ (c .before .none-yet2 .ensures) (c .plain2 .ensures))
 
 hold-more-requires-2 : tie.Need-hold-more-requires-2
 hold-more-requires-2 c κs = search needs
@@ -79,7 +79,7 @@ returns-2 : tie.Need-returns-2
 returns-2 c = let h = c .before .before .hold-more2 .ensures in
     let k = c .before .before .before .before .before .before in
     let l = run (k .before .before .before .before .before .before) in
-    did-hold _ _ _ _ _ _ _ (sees-cut _ _ _ (told k) (c .before .before .before .before .before .if1 .left) (omega (arith, l, c .before .before .before .before .if2 .taken))) l (h .0) (h .1)
+    did-hold source source-lawful _ _ _ _ _ _ _ (sees-cut source _ _ _ (told k) (c .before .before .before .before .before .if1 .left) (omega (arith, l, c .before .before .before .before .if2 .taken))) l (h .0) (h .1)
 
 slice-reshare-prefix-finish : tie.Need-slice-reshare-prefix-finish
 slice-reshare-prefix-finish c = held (c .before .before .before .before .before .before .before .before) .0
@@ -90,7 +90,7 @@ slice-aggregate-finish c = held (c .before .before .before .before .before .befo
 finish-requires : tie.Need-finish-requires
 finish-requires c κs = let k = c .before .before .before .before in
     let s = k .before .before .before .before .before .before in
-    omega (arith, held s, ahead k .0, total-least _ _ (told k), s .pre .0)
+    omega (arith, held s, ahead k .0, source-lawful .total-least _ _ (told k), s .pre .0)
 
 sub-walk : tie.Need-sub-walk
 sub-walk c = omega (arith, ahead (c .before .before .before .before .before .before .before) .0)
@@ -108,10 +108,10 @@ settle-requires c κs = let w = c .before .before .before in
     let i = w .before .before .before .before .before .before .before in
     let s = i .before .before .before .before .before .before .before .before in
     let a = s .args in
-    cut-fits (a .limit) (a .field .now) (i .before .before .before .size .given .0 .0 - a .k) (omega (arith, i .if2 .left)) _ (omega (arith, s .pre .0)) _ _ (w .walk .ensures .0)
+    cut-fits source source-lawful (a .limit) (a .field .now) (i .before .before .before .size .given .0 .0 - a .k) (omega (arith, i .if2 .left)) _ (omega (arith, s .pre .0)) _ _ (w .walk .ensures .0)
 
 returns-3 : tie.Need-returns-3
-returns-3 c = did-as (ended-foreign _ _ (cc)) (did-nothing _ 1 0 _ _ _ _ (c .before .none-yet .ensures) (c .plain .ensures))
+returns-3 c = did-as (ended-foreign source source-lawful _ _ (cc)) (did-nothing source _ 1 0 _ _ _ _ (c .before .none-yet .ensures) (c .plain .ensures))
 
 same-length-2 : tie.Need-same-length-2
 same-length-2 c = search needs
@@ -120,7 +120,7 @@ returns-4 : tie.Need-returns-4
 returns-4 c = let h = c .before .before .hold-more .ensures in
     let s = c .before .before .before .before .before .before .before .before .before in
     let l = run s in
-    did-hold _ _ _ _ _ _ _ (sees-few _ _ (cc) (λ z. omega (arith, l, s .pre .0))) l (h .0) (h .1)
+    did-hold source source-lawful _ _ _ _ _ _ _ (sees-few source _ _ (cc) (λ z. omega (arith, l, s .pre .0))) l (h .0) (h .1)
 
 same-length-3 : tie.Need-same-length-3
 same-length-3 c = search needs

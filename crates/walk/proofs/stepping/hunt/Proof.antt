@@ -2,6 +2,8 @@
 -- Assumes nothing.
 use mathlib.Core.Path.{refl}
 use native.Mathlib.Omega.{arith}
+use Rattle.packet.proofs.Laws.{source-lawful}
+use Rattle.packet.specs.Size.{source}
 use Rattle.walk.proofs.CutLaws.{cut-fits}
 use Rattle.walk.proofs.DoneLaws.{did-as, did-nothing, did-walk}
 use Rattle.walk.proofs.StepLaws.{hunted-none, hunted-from, points-in, walk-room}
@@ -16,7 +18,7 @@ plain-requires : tie.Need-plain-requires
 plain-requires c κs = search needs
 
 returns : tie.Need-returns
-returns c = did-as (hunted-none _ _ _ (c .before .before .if1 .taken)) (did-nothing _ 0 0 _ _ _ _ (c .before .none-yet .ensures) (c .plain .ensures))
+returns c = did-as (hunted-none source _ _ _ (c .before .before .if1 .taken)) (did-nothing source _ 0 0 _ _ _ _ (c .before .none-yet .ensures) (c .plain .ensures))
 
 none-yet-requires-2 : tie.Need-none-yet-requires-2
 none-yet-requires-2 c κs = search needs
@@ -29,7 +31,7 @@ settle-requires : tie.Need-settle-requires
 settle-requires c κs = let w = c .before .before .before in
     let i = w .before .before .before in
     let p = i .before .before .before .before .pre in
-    cut-fits _ _ _ (points-in (p .0) (p .1) (i .if1 .left)) _ (omega (arith, p .0)) _ _ (w .walk .ensures .0)
+    cut-fits source source-lawful _ _ _ (points-in (p .0) (p .1) (i .if1 .left)) _ (omega (arith, p .0)) _ _ (w .walk .ensures .0)
 
 same-length : tie.Need-same-length
 same-length c = search needs
@@ -42,8 +44,8 @@ returns-2 c = let s = c .before .before .settle .ensures in
     let w = c .before .before .before .before .before .before in
     let i = w .before .before .before in
     let p = i .before .before .before .before .pre in
-    did-as (hunted-from _ _ _ (i .if1 .left))
-    (did-walk _ _ _ (points-in (p .0) (p .1) (i .if1 .left)) _ _ _ _ _ _ _ refl refl _ (w .before .none-yet2 .ensures) (w .walk .ensures .0) (w .walk .ensures .1) (s .0) (s .1))
+    did-as (hunted-from source _ _ _ (i .if1 .left))
+    (did-walk source source-lawful _ _ _ (points-in (p .0) (p .1) (i .if1 .left)) _ _ _ _ _ _ _ refl refl _ (w .before .none-yet2 .ensures) (w .walk .ensures .0) (w .walk .ensures .1) (s .0) (s .1))
 
 pub hunt-spec : {M : Type 1} → statement M
 hunt-spec =

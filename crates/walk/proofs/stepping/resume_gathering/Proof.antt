@@ -1,5 +1,6 @@
 -- `reader::resume_gathering` meets its contract: the packet under way goes on, or disagrees.
 -- Assumes nothing.
+use Rattle.packet.specs.Size.{source}
 use Rattle.walk.proofs.DoneLaws.{did-as, did-disagreed}
 use Rattle.walk.proofs.GatherLaws.{held-there}
 use Rattle.walk.proofs.StepLaws.{gathers-on, gathers-apart}
@@ -29,7 +30,7 @@ same-length-2 : tie.Need-same-length-2
 same-length-2 c = search needs
 
 returns : tie.Need-returns
-returns c = did-as (gathers-on _ _ _ _ _ (cc)) (c .before .before .before .before .gather .ensures)
+returns c = did-as (gathers-on source _ _ _ _ _ (cc)) (c .before .before .before .before .gather .ensures)
 
 hunt-requires : tie.Need-hunt-requires
 hunt-requires c κs = search needs
@@ -44,7 +45,7 @@ same-length-4 : tie.Need-same-length-4
 same-length-4 c = search needs
 
 returns-2 : tie.Need-returns-2
-returns-2 c = did-as (gathers-apart _ _ _ _ _ (cc)) (did-disagreed _ (c .before .before .before .before .before .hunt .ensures) (c .disagreement .ensures))
+returns-2 c = did-as (gathers-apart source _ _ _ _ _ (cc)) (did-disagreed _ (c .before .before .before .before .before .hunt .ensures) (c .disagreement .ensures))
 
 pub resume-gathering-spec : {M : Type 1} → statement M
 resume-gathering-spec =

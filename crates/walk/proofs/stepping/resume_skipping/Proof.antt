@@ -2,6 +2,8 @@
 -- Assumes nothing.
 use mathlib.Core.Path.{refl, _∙_, sym}
 use native.Mathlib.Omega.{arith}
+use Rattle.packet.proofs.Laws.{source-lawful}
+use Rattle.packet.specs.Size.{source}
 use Rattle.walk.proofs.CutLaws.{cut-fits}
 use Rattle.walk.proofs.DoneLaws.{did-as, did-disagreed, did-nothing, did-walk}
 use Rattle.walk.proofs.StepLaws.{skips-apart, skips-on, skips-out, walk-room}
@@ -26,7 +28,7 @@ same-length-2 c = search needs
 
 returns : tie.Need-returns
 returns c = let i = c .before .before .before .before .before .before .before .before in
-    did-as (skips-apart _ _ _ _ _ (λ e. i .if1 .taken (e ∙ sym (i .before .called-at .ensures))))
+    did-as (skips-apart source _ _ _ _ _ (λ e. i .if1 .taken (e ∙ sym (i .before .called-at .ensures))))
     (did-disagreed _ (c .before .before .before .before .before .hunt .ensures) (c .disagreement .ensures))
 
 none-yet-requires : tie.Need-none-yet-requires
@@ -39,7 +41,7 @@ plain-requires : tie.Need-plain-requires
 plain-requires c κs = search needs
 
 returns-2 : tie.Need-returns-2
-returns-2 c = did-as (skips-on _ _ _ _ _ (cc) (c .before .before .if2 .taken)) (did-nothing _ 0 0 _ _ _ _ (c .before .none-yet .ensures) (c .plain .ensures))
+returns-2 c = did-as (skips-on source _ _ _ _ _ (cc) (c .before .before .if2 .taken)) (did-nothing source _ 0 0 _ _ _ _ (c .before .none-yet .ensures) (c .plain .ensures))
 
 none-yet-requires-2 : tie.Need-none-yet-requires-2
 none-yet-requires-2 c κs = search needs
@@ -49,7 +51,7 @@ walk-requires c κs = walk-room (c .before .before .before .before .before .befo
 
 settle-requires : tie.Need-settle-requires
 settle-requires c κs = let w = c .before .before .before in
-    cut-fits _ _ _ (w .before .before .before .if2 .left) _ (omega (arith, w .before .before .before .before .before .before .before .before .before .pre .0)) _ _ (w .walk .ensures .0)
+    cut-fits source source-lawful _ _ _ (w .before .before .before .if2 .left) _ (omega (arith, w .before .before .before .before .before .before .before .before .before .pre .0)) _ _ (w .walk .ensures .0)
 
 same-length-3 : tie.Need-same-length-3
 same-length-3 c = search needs
@@ -61,8 +63,8 @@ returns-3 : tie.Need-returns-3
 returns-3 c = let s = c .before .before .settle .ensures in
     let w = c .before .before .before .before .before .before in
     let i = w .before .before .before .if2 .left in
-    did-as (skips-out _ _ _ _ _ (cc) i)
-    (did-walk _ _ _ i _ _ _ _ _ _ _ refl refl _ (w .before .none-yet2 .ensures) (w .walk .ensures .0) (w .walk .ensures .1) (s .0) (s .1))
+    did-as (skips-out source _ _ _ _ _ (cc) i)
+    (did-walk source source-lawful _ _ _ i _ _ _ _ _ _ _ refl refl _ (w .before .none-yet2 .ensures) (w .walk .ensures .0) (w .walk .ensures .1) (s .0) (s .1))
 
 pub resume-skipping-spec : {M : Type 1} → statement M
 resume-skipping-spec =

@@ -1,6 +1,7 @@
 -- `reader::steps` meets its contract: idle and private frames, a gap, and else the state.
 -- Assumes nothing.
 use mathlib.Core.Path.{_∙_}
+use Rattle.packet.specs.Size.{source}
 use Rattle.walk.proofs.DoneLaws.{did-as, did-broke, did-nothing}
 use Rattle.walk.proofs.StepLaws.{carries-packets, state-follows, steps-none, steps-gap, steps-on}
 use borrow.Author.Needs.{needs}
@@ -20,8 +21,8 @@ break-off-requires : tie.Need-break-off-requires
 break-off-requires c κs = search needs
 
 returns : tie.Need-returns
-returns c = did-as (steps-none _ _ _ _ _ (cc))
-    (did-broke _ (did-nothing _ 0 0 _ _ _ _ (c .before .before .none-yet .ensures) (c .before .plain .ensures)) (c .break-off .ensures))
+returns c = did-as (steps-none source _ _ _ _ _ (cc))
+    (did-broke _ (did-nothing source _ 0 0 _ _ _ _ (c .before .before .none-yet .ensures) (c .before .plain .ensures)) (c .break-off .ensures))
 
 hunt-requires : tie.Need-hunt-requires
 hunt-requires c κs = let s = c .before .before .before .before .before .before .before .before in
@@ -39,13 +40,13 @@ same-length-2 c = search needs
 
 returns-2 : tie.Need-returns-2
 returns-2 c = let i = c .before .before .before .before .before .before .before .before in
-    did-as (steps-gap _ _ _ _ _ (cc) (λ g. i .if2 .taken (i .before .before .before .before .before .before .pre .1 .1 ∙ g)))
+    did-as (steps-gap source _ _ _ _ _ (cc) (λ g. i .if2 .taken (i .before .before .before .before .before .before .pre .1 .1 ∙ g)))
     (did-broke _ (c .before .before .before .before .before .hunt .ensures) (c .break-off2 .ensures))
 
 resume-requires : tie.Need-resume-requires
 resume-requires c κs = let s = c .before .before .before .before .before .before .before .before in
     let q = carries-packets (s .args .h) (cc) in
-    (s .pre .0 (q .0), (q .1, state-follows _ _ _ (s .pre .1 .0)))
+    (s .pre .0 (q .0), (q .1, state-follows source _ _ _ (s .pre .1 .0)))
 
 same-length-3 : tie.Need-same-length-3
 same-length-3 c = search needs
@@ -54,7 +55,7 @@ same-length-4 : tie.Need-same-length-4
 same-length-4 c = search needs
 
 returns-3 : tie.Need-returns-3
-returns-3 c = did-as (steps-on _ _ _ _ _ (cc) (cc)) (c .before .before .before .before .resume .ensures)
+returns-3 c = did-as (steps-on source _ _ _ _ _ (cc) (cc)) (c .before .before .before .before .resume .ensures)
 
 pub steps-spec : {M : Type 1} → statement M
 steps-spec =

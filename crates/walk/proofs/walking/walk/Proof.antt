@@ -5,6 +5,8 @@ use Prim.Native.Nat.{_+_, _-_, _≤_}
 use native.Mathlib.Omega.{arith}
 use lib.ListN.{length, take, drop, length-take, length-drop}
 use borrow.Author.Needs.{needs}
+use Rattle.packet.proofs.Laws.{source-lawful}
+use Rattle.packet.specs.Size.{source}
 use Rattle.octets.specs.Laid.{laid}
 use Rattle.walk.specs.Walk.{seenOf, walkOf, handedAll, finished}
 use Rattle.walk.specs.declared.walking.Seen.the-variants.{Stop, Whole}
@@ -13,29 +15,29 @@ use Rattle.walk.proofs.walking.walk.Statement.{statement}
 use Rattle.walk.proofs.walking.walk.Tie as tie
 
 abbrev Inv-loop : tie.InvT-loop
-Inv-loop field from limit out₀ t₀ at₀ out t at = Kept limit field from out₀ t₀ out t at
+Inv-loop field from limit out₀ t₀ at₀ out t at = Kept source limit field from out₀ t₀ out t at
 
 abbrev μ-loop : tie.MeasureT-loop
 μ-loop field from limit out₀ t₀ at₀ out t at = length field - at
 
 -- at a whole packet of n octets
 whole-here : (c : tie.After-known-told2 Inv-loop μ-loop)
-    → seenOf (c .before .before .before .before .before .before .before .before .args .limit) (drop (c .before .before .before .before .before .loop .at) (c .before .before .before .before .before .before .before .before .args .field .now)) ≡ Whole (c .before .seen2 .given .0 .0)
-whole-here c = looked (c .before .before .before .before .before .before .before .before .args .limit) (c .before .before .before .before .before .before .before .before .args .field .now) (c .before .before .before .before .before .loop .at) _ (c .before .before .before .look .ensures) ∙ (cc)
+    → seenOf source (c .before .before .before .before .before .before .before .before .args .limit) (drop (c .before .before .before .before .before .loop .at) (c .before .before .before .before .before .before .before .before .args .field .now)) ≡ Whole (c .before .seen2 .given .0 .0)
+whole-here c = looked source (c .before .before .before .before .before .before .before .before .args .limit) (c .before .before .before .before .before .before .before .before .args .field .now) (c .before .before .before .before .before .loop .at) _ (c .before .before .before .look .ensures) ∙ (cc)
 
 stands : (c : tie.After-known-told2 Inv-loop μ-loop)
-    → Stands (c .before .before .before .before .before .before .before .before .args .limit) (drop (c .before .before .before .before .before .loop .at) (c .before .before .before .before .before .before .before .before .args .field .now)) (c .before .seen2 .given .0 .0)
-stands c = seen-whole _ _ _ (whole-here c)
+    → Stands source (c .before .before .before .before .before .before .before .before .args .limit) (drop (c .before .before .before .before .before .loop .at) (c .before .before .before .before .before .before .before .before .args .field .now)) (c .before .seen2 .given .0 .0)
+stands c = seen-whole source source-lawful _ _ _ (whole-here c)
 
 -- at the walk's end
 stop-here : (c : tie.After-known-told Inv-loop μ-loop)
-    → seenOf (c .before .before .before .before .before .before .before .before .args .limit) (drop (c .before .before .before .before .before .loop .at) (c .before .before .before .before .before .before .before .before .args .field .now)) ≡ Stop (c .before .seen .given .0 .0)
-stop-here c = looked (c .before .before .before .before .before .before .before .before .args .limit) (c .before .before .before .before .before .before .before .before .args .field .now) (c .before .before .before .before .before .loop .at) _ (c .before .before .before .look .ensures) ∙ (cc)
+    → seenOf source (c .before .before .before .before .before .before .before .before .args .limit) (drop (c .before .before .before .before .before .loop .at) (c .before .before .before .before .before .before .before .before .args .field .now)) ≡ Stop (c .before .seen .given .0 .0)
+stop-here c = looked source (c .before .before .before .before .before .before .before .before .args .limit) (c .before .before .before .before .before .before .before .before .args .field .now) (c .before .before .before .before .before .loop .at) _ (c .before .before .before .look .ensures) ∙ (cc)
 
 loop-holds : tie.Need-loop-holds Inv-loop μ-loop
 loop-holds c =
     let p = c .before .before .pre in
-    kept-start _ _ _ _ _ (p .0) (p .2) (p .3)
+    kept-start source source-lawful _ _ _ _ _ (p .0) (p .2) (p .3)
 
 sub-look : tie.Need-sub-look Inv-loop μ-loop
 sub-look c = search needs
@@ -78,7 +80,7 @@ loop-less c = omega (arith, stands (c .before .before .before .before .before), 
 loop-again : tie.Need-loop-again Inv-loop μ-loop
 loop-again c = let a = c .before .before .before .before .before .before .before .before .before .before .before .before .before .args in
     let l = c .before .before .before .before .before .before .before .before .before .before .loop in
-    kept-more (a .limit) (a .field .now) (a .from) (a .out .now) (a .start) (l .out) (l .t) (l .at) (l .inv) _ _ _ (whole-here (c .before .before .before .before .before))
+    kept-more source source-lawful (a .limit) (a .field .now) (a .from) (a .out .now) (a .start) (l .out) (l .t) (l .at) (l .inv) _ _ _ (whole-here (c .before .before .before .before .before))
     (c .before .before .hand-out .ensures .0) (c .before .before .hand-out .ensures .1)
 
 same-length : tie.Need-same-length Inv-loop μ-loop
@@ -87,7 +89,7 @@ same-length c = c .before .before .before .before .before .loop .inv .length-kep
 returns : tie.Need-returns Inv-loop μ-loop
 returns c = let a = c .before .before .before .before .before .before .before .before .args in
     let l = c .before .before .before .before .before .loop in
-    kept-end (a .limit) (a .field .now) (a .from) (a .out .now) (a .start) (l .out) (l .t) (l .at) (l .inv) _ (stop-here c)
+    kept-end source source-lawful (a .limit) (a .field .now) (a .from) (a .out .now) (a .start) (l .out) (l .t) (l .at) (l .inv) _ (stop-here c)
 
 pub walk-spec : {M : Type 1} → statement M
 walk-spec =
