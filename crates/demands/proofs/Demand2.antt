@@ -29,7 +29,8 @@ use Rattle.demands.specs.History.{Allowed, wanted}
 use Rattle.demands.specs.History.Event.{arrives}
 use Rattle.demands.specs.Sender.{Sends, streamOf}
 use Rattle.demands.proofs.AllOut.{total, all-due, none-due}
-use Rattle.demands.proofs.Demand3.{demand3-general, from-fresh, source-sound}
+use Rattle.walk.proofs.SourceLaws.{source-sound}
+use Rattle.demands.proofs.Demand3.{demand3-general, from-fresh}
 use Rattle.demands.proofs.Fillers.{whole-append}
 use Rattle.demands.proofs.Frame.{none-there}
 use Rattle.demands.proofs.Hears.Reads.{unheard}

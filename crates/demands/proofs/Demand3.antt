@@ -9,7 +9,7 @@ use native.Mathlib.Omega.{arith}
 use lib.ListN.{replicate, getD-replicate}
 use Rattle.packet.specs.Family.{Family, AllWhole}
 use Rattle.packet.specs.Size.{most, source}
-use Rattle.packet.proofs.Laws.{source-lawful}
+use Rattle.walk.proofs.SourceLaws.{source-sound}
 use Rattle.walk.specs.Theorems.{Sound}
 use Rattle.frame.specs.declared.set_up.SetUp.{SetUp}
 use Rattle.channel.specs.State.{freshChannel, freshRecord}
@@ -68,9 +68,6 @@ from-fresh F limit d u v count tail ps fs store es w s h whole octets a =
     (ap (λ (c : Channel). c .heard) (getD-replicate 8 v freshChannel freshChannel h)) a
 
 -- the one instance: source packets of up to 4,096 octets
-pub source-sound : Sound source most
-source-sound = record { laws = source-lawful; wide = omega arith }
-
 pub demand3 : Demand3
 demand3 = demand3-general source most source-sound
 

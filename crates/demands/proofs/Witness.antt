@@ -35,7 +35,8 @@ use Rattle.demands.specs.Sender.{Mark, Sent, Sends, streamOf, inner, mar
 use Rattle.demands.specs.Sender.Sends.{no-more, packets, idle}
 use Rattle.demands.specs.Witness.{ours, theirs, earlier, first, second, fourth, fifth, sixth, laidPackets, frame1, frame2, frame3, frame4, frame5, frame6, frame7, frames, elsewhere, history, broughtIn, outputsOf, dueTable, idleTable, Witness, Demand3-met}
 use Rattle.demands.proofs.Calls.{Fine, fine-after, others-keep, read}
-use Rattle.demands.proofs.Demand3.{demand3-fresh, source-sound}
+use Rattle.walk.proofs.SourceLaws.{source-sound}
+use Rattle.demands.proofs.Demand3.{demand3-fresh}
 
 -- octets by a test of each
 below : List ℕ → Bool

@@ -10,7 +10,9 @@ use lib.Dec.{eqb, leb, ltb}
 use lib.ListN.{length, getD, take, drop, replicate}
 use Rattle.octets.specs.Numbers.{bitsAt}
 use Rattle.octets.specs.Pick.{pick}
-use Rattle.packet.specs.Size.{most, sizeOf}
+use Rattle.packet.specs.Size.{most, sizeOf, source}
+use Rattle.packet.proofs.Laws.{source-lawful}
+use Rattle.walk.proofs.SourceLaws.{source-sound}
 use Rattle.frame.specs.Header.{headerOf}
 use Rattle.frame.specs.Opening.{frameOf, noneStarts}
 use Rattle.frame.proofs.TableLaws.{none-gives}
@@ -31,7 +33,7 @@ use Rattle.reader.proofs.Laws.{accepted-keeps, few-enough}
 use Rattle.reader.proofs.ReadLaws.{found-none, leaves, ready}
 use Rattle.reader.specs.Reading.{answerOf, channelOf, doneBy, fieldOf, recordOf, reportOf, storeOf}
 use Rattle.walk.specs.Steps.{Done, agrees, broke, calledAt, carriesNone, disagreed, ended, endedBy, gapFor, gathered, hunted, only, resumed, skipped, stepsOf}
-use Rattle.walk.specs.Theorems.{Octets}
+use Rattle.packet.specs.Family.{Octets}
 use Rattle.walk.specs.Walk.{Walked, walkOf}
 use Rattle.reader.specs.declared.reading.Answer.{Answer}
 use Rattle.reader.specs.declared.reading.Answer.the-variants.{Refused, Accepted}
@@ -46,7 +48,7 @@ use Rattle.host.specs.Answer.{Lays, ReportFits}
 use Rattle.host.specs.Words.{NumbersFit, brokenChannel, channelAt, eachChannel, numberWord, unpacked}
 
 -- the number of a channel that keeps the rules
-state-small : (limit : ℕ) (part : List ℕ) (s : State) → limit ≤ 4096 → stateFollows limit part s ≡ true → numberWord s ≤ 65536
+state-small : (limit : ℕ) (part : List ℕ) (s : State) → limit ≤ 4096 → stateFollows source limit part s ≡ true → numberWord s ≤ 65536
 unfolding stateFollows
 state-small limit part Hunting h e = omega arith
 state-small limit part (Gathering k) h e = omega (arith, ltb-true k limit (both (ltb k limit) (judged limit k (sizeOf (take k part))) e .0))
@@ -58,25 +60,25 @@ hunts-small Hunting e = omega arith
 hunts-small (Gathering k) e = absurd (false≢true e)
 hunts-small (Skipping r) e = absurd (false≢true e)
 
-channel-small : (limit : ℕ) (part : List ℕ) (c : Channel) → limit ≤ 4096 → channelFollows limit part c ≡ true → numberWord (c .state) ≤ 65536
+channel-small : (limit : ℕ) (part : List ℕ) (c : Channel) → limit ≤ 4096 → channelFollows source limit part c ≡ true → numberWord (c .state) ≤ 65536
 unfolding channelFollows
 channel-small limit part c h e = go (c .heard) e
   where
-    go : (b : Bool) → pick b (stateFollows limit part (c .state)) (hunts (c .state)) ≡ true → numberWord (c .state) ≤ 65536
+    go : (b : Bool) → pick b (stateFollows source limit part (c .state)) (hunts (c .state)) ≡ true → numberWord (c .state) ≤ 65536
     go true q = state-small limit part (c .state) h q
     go false q = hunts-small (c .state) q
 
-pub numbers-fit : (store : List ℕ) (rec : Record) → length (rec .channels) ≡ 8 → recordFollows most store rec ≡ true → NumbersFit rec
+pub numbers-fit : (store : List ℕ) (rec : Record) → length (rec .channels) ≡ 8 → recordFollows source most store rec ≡ true → NumbersFit rec
 numbers-fit store rec n e v h =
-    omega (arith, channel-small most (partOf most v store) (getD (rec .channels) v freshChannel) (omega arith) (each-follows most store rec .0 e v (omega arith)))
+    omega (arith, channel-small most (partOf most v store) (getD (rec .channels) v freshChannel) (omega arith) (each-follows source most store rec .0 e v (omega arith)))
 
 -- words that are no record's number of words do not follow the rules
-pub whole-words : (words store : List ℕ) → recordFollows most store (unpacked words) ≡ true → length words ≡ 32
+pub whole-words : (words store : List ℕ) → recordFollows source most store (unpacked words) ≡ true → length words ≡ 32
 unfolding unpacked recordFollows allFollow channelFollows stateFollows
 whole-words words store e = go (eqb (length words) 32) refl e
   where
     go : (b : Bool) → eqb (length words) 32 ≡ b
-        → recordFollows most store (record { channels = pick b (eachChannel (channelAt words)) (replicate 8 brokenChannel) }) ≡ true → length words ≡ 32
+        → recordFollows source most store (record { channels = pick b (eachChannel (channelAt words)) (replicate 8 brokenChannel) }) ≡ true → length words ≡ 32
     go true q h = eqb-true (length words) 32 q
     go false q h = absurd (false≢true h)
 
@@ -125,34 +127,34 @@ walked-single : (w : Walked) → Single (ended w)
 walked-single w = ended-single (w .end) (w .whole) (w .rest)
 
 module _ (limit : ℕ) (part field : List ℕ) (pointer : ℕ) where
-  hunted-single : Single (hunted limit field pointer)
+  hunted-single : Single (hunted source limit field pointer)
   unfolding hunted
   hunted-single =
-      either (eqb pointer noneStarts) (only Hunting) (ended (walkOf limit (drop pointer field))) (only-single Hunting)
-      (walked-single (walkOf limit (drop pointer field)))
+      either (eqb pointer noneStarts) (only Hunting) (ended (walkOf source limit (drop pointer field))) (only-single Hunting)
+      (walked-single (walkOf source limit (drop pointer field)))
 
-  resumed-single : (s : State) → Single (resumed limit part field pointer s)
+  resumed-single : (s : State) → Single (resumed source limit part field pointer s)
   unfolding resumed gathered skipped
   resumed-single Hunting = hunted-single
   resumed-single (Gathering k) =
-      let w = walkOf limit (take k part ++ field) in
-      let d = hunted limit field pointer in
+      let w = walkOf source limit (take k part ++ field) in
+      let d = hunted source limit field pointer in
       either (agrees (length field) k (sizeOf (take k part ++ field)) pointer) (ended w) (disagreed (Gathering k) d) (walked-single w)
       (disagreed-single (Gathering k) d hunted-single)
   resumed-single (Skipping r) =
-      let w = walkOf limit (drop r field) in
-      let d = hunted limit field pointer in
+      let w = walkOf source limit (drop r field) in
+      let d = hunted source limit field pointer in
       let s = Skipping (r - length field) in
       either (eqb pointer (calledAt (length field) r)) (pick (leb r (length field)) (ended w) (only s)) (disagreed (Skipping r) d)
       (either (leb r (length field)) (ended w) (only s) (walked-single w) (only-single s))
       (disagreed-single (Skipping r) d hunted-single)
 
-steps-single : (limit : ℕ) (part field : List ℕ) (h : Header) (c : Channel) → Single (stepsOf limit part field h c)
+steps-single : (limit : ℕ) (part field : List ℕ) (h : Header) (c : Channel) → Single (stepsOf source limit part field h c)
 unfolding stepsOf
 steps-single limit part field h c =
     let none = broke (c .state) (only Hunting) in
-    let anew = hunted limit field (h .pointer) in
-    let on = resumed limit part field (h .pointer) (c .state) in
+    let anew = hunted source limit field (h .pointer) in
+    let on = resumed source limit part field (h .pointer) (c .state) in
     let gap = not (eqb (gapFor c h) 0) in
     either (carriesNone h) none (pick gap (broke (c .state) anew) on) (broke-single (c .state) (only Hunting) (only-single Hunting))
     (either gap (broke (c .state) anew) on (broke-single (c .state) anew (hunted-single limit part field (h .pointer)))
@@ -169,11 +171,11 @@ module _ (u : SetUp) (rec : Record) (store out f : List ℕ) (a : Report) (e : a
   unfolding reportOf
   report-fits =
       let x = frameOf u f in
-      let n = found-none u rec store out f a e in
-      let r = ready u rec store out f x (refl, n) in
-      let told : reportOf x (channelOf x rec) (doneBy x rec store f) ≡ a = cc (leaves u rec store out f n .answers) in
-      let s : Single (doneBy x rec store f) = steps-single most (partOf most (x .header .channel) store) (fieldOf x f) (x .header) (channelOf x rec) in
-      let few = few-enough u rec store out f a e in
+      let n = found-none source most u rec store out f a e in
+      let r = ready source most u rec store out f x (refl, n) in
+      let told : reportOf source x (channelOf x rec) (doneBy source most x rec store f) ≡ a = cc (leaves source most u rec store out f n .answers) in
+      let s : Single (doneBy source most x rec store f) = steps-single most (partOf most (x .header .channel) store) (fieldOf x f) (x .header) (channelOf x rec) in
+      let few = few-enough source most source-lawful u rec store out f a e in
       let h = pointer-lt u f in
       record {
         channel = rw (← told) (omega (arith, r .channel));
@@ -187,8 +189,8 @@ module _ (u : SetUp) (rec : Record) (store out f : List ℕ) (a : Report) (e : a
       }
 
   -- the record it was read with follows the rules
-  pub followed : recordFollows most store rec ≡ true
-  followed = ready u rec store out f (frameOf u f) (refl, found-none u rec store out f a e) .follows
+  pub followed : recordFollows source most store rec ≡ true
+  followed = ready source most u rec store out f (frameOf u f) (refl, found-none source most u rec store out f a e) .follows
 
 -- whatever a reading of saved words answers can be laid down
 pub answer-lays : (u : SetUp) (words store out f : List ℕ) → Octets store → Octets f
@@ -198,7 +200,7 @@ answer-lays u words store out f os of = go (answerOf u (unpacked words) store ou
     go : (a : Answer) → answerOf u (unpacked words) store out f ≡ a → Lays a (recordOf u (unpacked words) store out f) words
     go (Refused r) e = tt
     go (Accepted a) e =
-        let k = accepted-keeps u (unpacked words) store out f a os of (eight-channels words) e in
+        let k = accepted-keeps source most source-sound u (unpacked words) store out f a os of (eight-channels words) e in
         (report-fits u (unpacked words) store out f a e, numbers-fit (storeOf u (unpacked words) store out f) (recordOf u (unpacked words) store out f) (k .eight) (k .follows), whole-words words store (followed u (unpacked words) store out f a e))
 
 -- where the next writing goes on fits words if this one's place did

@@ -13,7 +13,8 @@ use lib.Seq.{getD-drop, getD-take, getD-set-same, getD-set-other, take-all}
 use Rattle.octets.specs.Numbers.{bitsAt}
 use Rattle.octets.specs.Pick.{pick}
 use Rattle.octets.proofs.Laws.{in-second-run}
-use Rattle.packet.specs.Size.{most}
+use Rattle.packet.specs.Size.{most, source}
+use Rattle.walk.proofs.SourceLaws.{source-sound}
 use Rattle.frame.proofs.ClosingLaws.{bit-lt}
 use Rattle.frame.specs.Header.{headerOf}
 use Rattle.frame.specs.Opening.{frameOf, row1}
@@ -115,7 +116,7 @@ at-small : (words : List ℕ) (v : ℕ) → channelAt words v .last .0 < 256
 unfolding channelAt
 at-small words v = count-small (getD words (4 * v) 0) (getD words (4 * v + 1) 0) (getD words (4 * v + 2) 0) (getD words (4 * v + 3) 0)
 
-odd-breaks : (words store : List ℕ) → recordFollows most store (unpacked words) ≡ true → Odd words → ⊥
+odd-breaks : (words store : List ℕ) → recordFollows source most store (unpacked words) ≡ true → Odd words → ⊥
 unfolding channelAt
 odd-breaks words store e (inl n) = n (whole-words words store e)
 odd-breaks words store e (inr (v, h, o)) =
@@ -125,13 +126,13 @@ odd-breaks words store e (inr (v, h, o)) =
 
 pub odd-refused : Odd-refused
 unfolding row1
-odd-refused u words store out f a b c o = go (recordFollows most store (unpacked words)) refl
+odd-refused u words store out f a b c o = go (recordFollows source most store (unpacked words)) refl
   where
-    go : (t : Bool) → recordFollows most store (unpacked words) ≡ t → readAnswer u (unpacked words) store out f ≡ Refused BrokenRecord
+    go : (t : Bool) → recordFollows source most store (unpacked words) ≡ t → readAnswer u (unpacked words) store out f ≡ Refused BrokenRecord
     go true e = absurd (odd-breaks words store e o)
     go false e =
-        sym (refuses u (unpacked words) store out f BrokenRecord (record { answer = Refused BrokenRecord; after = unpacked words })
-        (at-record u (unpacked words) store out f (not-false (fitsOf u) a) (not-false (storeFits most (length store)) b)
+        sym (refuses source most u (unpacked words) store out f BrokenRecord (record { answer = Refused BrokenRecord; after = unpacked words })
+        (at-record source most u (unpacked words) store out f (not-false (fitsOf u) a) (not-false (storeFits most (length store)) b)
         (not-false (outputFits most (length out)) c) e) refl .answers)
 
 -- every count in a record that words are, and in one that a reading leaves of it, is an octet
@@ -156,13 +157,13 @@ set-small cs i v c k l h = go (eqb v i) refl
     go false e = rw (getD-set-other cs i v c freshChannel (eqb-false v i e)) h
 
 module _ (u : SetUp) (rec : Record) (store out f : List ℕ) (a : Report) (e : readAnswer u rec store out f ≡ Accepted a) where
-  left-as : recordAfter (frameOf u f) rec (doneBy (frameOf u f) rec store f) ≡ recordOf u rec store out f
-  left-as = leaves u rec store out f (found-none u rec store out f a e) .record-left
+  left-as : recordAfter (frameOf u f) rec (doneBy source most (frameOf u f) rec store f) ≡ recordOf u rec store out f
+  left-as = leaves source most u rec store out f (found-none source most u rec store out f a e) .record-left
 
   left-eight : length (rec .channels) ≡ 8 → length (recordOf u rec store out f .channels) ≡ 8
   left-eight n =
       rw (← left-as)
-      (channels-kept rec (frameOf u f) f store out (ready u rec store out f (frameOf u f) (refl, found-none u rec store out f a e)) ∙ n)
+      (channels-kept source (source-sound .laws) most (source-sound .wide) rec (frameOf u f) f store out (ready source most u rec store out f (frameOf u f) (refl, found-none source most u rec store out f a e)) ∙ n)
 
   left-small : length (rec .channels) ≡ 8 → ((v : ℕ) → v < 8 → getD (rec .channels) v freshChannel .last .0 < 256)
       → (v : ℕ) → v < 8 → getD (recordOf u rec store out f .channels) v freshChannel .last .0 < 256
@@ -174,7 +175,7 @@ saved-unpacks u words store out f answer r words′ store′ out′ answer′ c 
   where
     go : (a : ReadAnswer) → readAnswer u (unpacked words) store out f ≡ a → unpacked words′ ≡ recordOf u (unpacked words) store out f
     go (Refused x) e =
-        ap unpacked (rw e at (c .record-left)) ∙ sym (refused-untouched u (unpacked words) store out f x e .same-record)
+        ap unpacked (rw e at (c .record-left)) ∙ sym (refused-untouched source most u (unpacked words) store out f x e .same-record)
     go (Accepted a) e =
         let n = eight-channels words in
         ap unpacked (rw e at (c .record-left))
@@ -189,7 +190,7 @@ others-keep u words store out f answer r words′ store′ out′ answer′ a w 
     let k : w < length (after .channels) = omega (arith, left-eight u rec store out f a e (eight-channels words)) in
     ap (λ (l : List ℕ). take 4 (drop (4 * w) l)) (rw e at (c .record-left))
     ∙ ap (take 4) (drop-packed (after .channels) w k)
-    ∙ ap packedChannel (others-apart u rec store out f a w e h n .channel-kept
+    ∙ ap packedChannel (others-apart source most source-sound u rec store out f a w e h n .channel-kept
     ∙ ap (λ (l : List Channel). getD l w freshChannel) (unpacked-is words (whole-words words store follows))
     ∙ each-at (channelAt words) w h)
     ∙ words-at words store follows w h
@@ -199,7 +200,7 @@ read-refused u words store out f answer r words′ store′ out′ answer′ c n
   where
     go : (a : ReadAnswer) → readAnswer u (unpacked words) store out f ≡ a → (words′ ≡ words) × (store′ ≡ store) × (out′ ≡ out)
     go (Refused x) e =
-        let t = refused-untouched u (unpacked words) store out f x e in
+        let t = refused-untouched source most u (unpacked words) store out f x e in
         (rw e at (c .record-left), c .store-left ∙ t .same-store, c .output-left ∙ t .same-output)
     go (Accepted a) e = absurd (n (rw e at (c .number)))
 

@@ -11,7 +11,7 @@ use lib.Dec.{eqb, ltb}
 use lib.ListN.{length, getD, take, drop, drop-of-length-le, length-drop, take-append-drop}
 use lib.Seq.{getD-drop, drop-at, drop-cons, drop-drop, ext-getD, length-take-le}
 use Rattle.octets.specs.Pick.{pick}
-use Rattle.packet.specs.Size.{most}
+use Rattle.packet.specs.Size.{most, source}
 use Rattle.frame.specs.Answers.{bit}
 use Rattle.channel.proofs.Laws.{each-follows}
 use Rattle.channel.specs.Rules.{channelFollows, hunts, recordFollows, stateFollows}
@@ -90,7 +90,7 @@ back rec n h =
     ap (λ (l : List Channel). record { channels = l }) (unpacked-is (packedAll cs) k ∙ same)
 
 -- a channel that was unpacked and follows the rules has the words it was unpacked from
-broken-not : (limit : ℕ) (part : List ℕ) (b : Bool) (n : ℕ) → channelFollows limit part (record { heard = b; last = record { 0 = n }; state = brokenState }) ≡ true → ⊥
+broken-not : (limit : ℕ) (part : List ℕ) (b : Bool) (n : ℕ) → channelFollows source limit part (record { heard = b; last = record { 0 = n }; state = brokenState }) ≡ true → ⊥
 unfolding channelFollows stateFollows hunts
 broken-not limit part true n e = false≢true e
 broken-not limit part false n e = false≢true e
@@ -107,7 +107,7 @@ stateBy one two none zero? n = pick one (Gathering n) (pick two (Skipping n) (pi
 
 abbrev Own : ℕ → List ℕ → Bool → ℕ → ℕ → ℕ → State → Type 0
 Own limit part heard count state number s =
-    channelFollows limit part (record { heard = heard; last = record { 0 = count }; state = s }) ≡ true
+    channelFollows source limit part (record { heard = heard; last = record { 0 = count }; state = s }) ≡ true
     → stateWord s ∷ numberWord s ∷ [] ≡ state ∷ number ∷ []
 
 state-own : (limit : ℕ) (part : List ℕ) (heard : Bool) (count state number : ℕ) → Own limit part heard count state number (unpackedState state number)
@@ -126,13 +126,13 @@ abbrev madeOf : ℕ → ℕ → ℕ → ℕ → Channel
 madeOf heard count state number = record { heard = eqb heard 1; last = record { 0 = count }; state = unpackedState state number }
 
 pub channel-own : (limit : ℕ) (part : List ℕ) (heard count state number : ℕ)
-    → channelFollows limit part (unpackedChannel heard count state number) ≡ true
+    → channelFollows source limit part (unpackedChannel heard count state number) ≡ true
     → packedChannel (unpackedChannel heard count state number) ≡ heard ∷ count ∷ state ∷ number ∷ []
 unfolding unpackedChannel
 channel-own limit part heard count state number = go (ltb 1 heard) (ltb 255 count) refl refl
   where
     go : (a b : Bool) → ltb 1 heard ≡ a → ltb 255 count ≡ b
-        → channelFollows limit part (pick a brokenChannel (pick b brokenChannel (madeOf heard count state number))) ≡ true
+        → channelFollows source limit part (pick a brokenChannel (pick b brokenChannel (madeOf heard count state number))) ≡ true
         → packedChannel (pick a brokenChannel (pick b brokenChannel (madeOf heard count state number))) ≡ heard ∷ count ∷ state ∷ number ∷ []
     go true b p q f = absurd (broken-not limit part true 0 f)
     go false true p q f = absurd (broken-not limit part true 0 f)
@@ -164,10 +164,10 @@ four (a ∷ b ∷ []) h = absurd (omega arith)
 four (a ∷ b ∷ c ∷ []) h = absurd (omega arith)
 four (a ∷ b ∷ c ∷ d ∷ l) h = refl
 
-module _ (words store : List ℕ) (e : recordFollows most store (unpacked words) ≡ true) where
-  pub channel-follows : (v : ℕ) → v < 8 → channelFollows most (partOf most v store) (channelAt words v) ≡ true
+module _ (words store : List ℕ) (e : recordFollows source most store (unpacked words) ≡ true) where
+  pub channel-follows : (v : ℕ) → v < 8 → channelFollows source most (partOf most v store) (channelAt words v) ≡ true
   channel-follows v h =
-      let f = each-follows most store (unpacked words) .0 e v (omega (arith, eight-channels words)) in
+      let f = each-follows source most store (unpacked words) .0 e v (omega (arith, eight-channels words)) in
       rw (unpacked-is words (whole-words words store e), each-at (channelAt words) v h) at f
 
   pub words-at : (v : ℕ) → v < 8 → packedChannel (channelAt words v) ≡ take 4 (drop (4 * v) words)

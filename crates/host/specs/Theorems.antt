@@ -5,7 +5,7 @@ use mathlib.Core.List.{List}
 use mathlib.Core.Logic.{_⊎_, _↔_}
 use Prim.Native.Nat.{ℕ, _+_, _*_, _/_, _%_, _^_, _<_, _≤_}
 use lib.ListN.{length, getD, take, drop, replicate}
-use Rattle.packet.specs.Size.{most}
+use Rattle.packet.specs.Size.{most, source}
 use Rattle.crc.specs.Register.{syndromeOf}
 use Rattle.frame.specs.Opening.{row1}
 use Rattle.frame.specs.declared.closing.ControlWord.{ControlWord}
@@ -50,7 +50,7 @@ Fresh-words = (packed freshRecord ≡ replicate 32 0) × (unpacked (replicate 32
 
 -- words of a record that follows the rules are their own re-packing
 abbrev pub Own-words : Type 0
-Own-words = (words store : List ℕ) → recordFollows most store (unpacked words) ≡ true → packed (unpacked words) ≡ words
+Own-words = (words store : List ℕ) → recordFollows source most store (unpacked words) ≡ true → packed (unpacked words) ≡ words
 
 -- words that no record has: another number of words, heard above 1, a count above 255, a state above 2, hunting with a number that is
 -- not 0
@@ -65,7 +65,7 @@ Odd words =
 
 -- they are refused by 4, after 1, 2 and 3
 abbrev pub Odd-refused : Type 0
-Odd-refused = (u : SetUp) (words store out f : List ℕ) → row1 u ≡ false → row2 store ≡ false → row3 out ≡ false → Odd words
+Odd-refused = (u : SetUp) (words store out f : List ℕ) → row1 u ≡ false → row2 most store ≡ false → row3 most out ≡ false → Odd words
     → readAnswer u (unpacked words) store out f ≡ Refused BrokenRecord
 
 -- the words that a reading leaves are those of the record that the reader leaves, so calls over words go on as calls over records do

@@ -5,5 +5,6 @@ pub mod FewLaws
 pub mod GatherLaws
 pub mod KeepLaws
 pub mod OctetLaws
+pub mod SourceLaws
 pub mod StepLaws
 pub mod WalkLaws
