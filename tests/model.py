@@ -625,4 +625,5 @@ def main():
         print(script.interpret(text))
 
 
-main()
+if __name__ == "__main__":
+    main()

@@ -35,6 +35,7 @@ one-answer =
       packet-size = λ d x y p q. both p q;
       packet-size-across = λ h f x y p q. both p q;
       packet-header = λ d x y p q. both p q;
+      front = λ run x y p q. both p q;
       chain = λ run x y p q. both p q;
       distance = λ run offset x y p q. both p q;
       fresh = λ x y p q. both p q;
@@ -47,6 +48,9 @@ one-answer =
       store-place = λ v x y p q. both p q;
       output-fits = λ n x y p q. both p q;
       walk = λ limit field from out t x y p q. λ i. (both (p .0) (q .0) i, both (p .1) (q .1) i);
+      gap-for = λ c h x y p q. both p q;
+      steps = λ limit part field out h c x y p q. λ i.
+          (both (p .reports) (q .reports) i, both (p .holds) (q .holds) i, both (p .hands) (q .hands) i);
       read-number = λ r x y p q. both p q;
       read = λ u rec store out f x y p q. λ i. (
         both (p .answers) (q .answers) i,

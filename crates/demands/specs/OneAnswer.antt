@@ -24,7 +24,7 @@ use Rattle.frame.specs.declared.header.Header.{Header}
 use Rattle.frame.specs.declared.opening.Opened.{Opened}
 use Rattle.frame.specs.declared.opening.Refusal.{Refusal}
 use Rattle.frame.specs.declared.set_up.SetUp.{SetUp}
-use Rattle.packet.specs.Chain.{chainOf, distanceOf}
+use Rattle.packet.specs.Chain.{chainOf, distanceOf, frontOf}
 use Rattle.packet.specs.Header as packetHeader
 use Rattle.packet.specs.Size as packetSize
 use Rattle.packet.specs.declared.header.Header.{Header as PacketHeader}
@@ -33,11 +33,14 @@ use Rattle.channel.specs.Busy.{busyState, maskOf, countOf, lowestOf}
 use Rattle.channel.specs.Rules.{recordFollows}
 use Rattle.channel.specs.State.{freshRecord}
 use Rattle.channel.specs.Store.{placeOf, storeFits, outputFits}
+use Rattle.channel.specs.declared.state.Channel.{Channel}
 use Rattle.channel.specs.declared.state.Record.{Record}
 use Rattle.channel.specs.declared.state.State.{State}
 use Rattle.reader.specs.Answers as readAnswers
 use Rattle.reader.specs.Reading.{Read}
+use Rattle.walk.specs.Steps.{Did, gapFor, stepsOf}
 use Rattle.walk.specs.Walk.{walkOf, handedAll, finished}
+use Rattle.walk.specs.declared.stepping.Course.{Course}
 use Rattle.reader.specs.declared.reading.Answer.{Answer}
 use Rattle.reader.specs.declared.reading.Refusal.{Refusal as ReadRefusal}
 use Rattle.walk.specs.declared.walking.Ended.{Ended}
@@ -76,13 +79,14 @@ pub record OneAnswer : Type 0 where
   pub data-size-for : (u : SetUp) (w : ControlWord) → One (λ (r : ℕ). r ≡ closing.closeSize u w)
   pub close-frame : (u : SetUp) (v : ℕ) (m : MasterCount) (c : ChannelCount) (w : ControlWord) (p : ℕ) (out : List ℕ)
       → One (λ (r : Closed × List ℕ). (r .0 ≡ closing.closeOf u v out) × (r .1 ≡ closing.outputOf u v m c w p out))
-  -- packet: Packet::fits, idle, idle_across, total, size, size_across, Header::of, is_chain, distance
+  -- packet: Packet::fits, idle, idle_across, total, size, size_across, Header::of, front, is_chain, distance
   pub packet-fits : (n : ℕ) → One (λ (r : Bool). r ≡ packetSize.fitsOf n)
   pub packet-idle : (p : List ℕ) → One (λ (r : Bool). r ≡ packetSize.idleOf p)
   pub packet-total : (p : List ℕ) → One (λ (r : ℕ). (r ≡ packetSize.totalOf p) × (r ≤ packetSize.formatMost))
   pub packet-size : (p : List ℕ) → One (λ (r : Size). r ≡ packetSize.sizeOf p)
   pub packet-size-across : (h f : List ℕ) → One (λ (r : Size). r ≡ packetSize.sizeOf (h ++ f))
   pub packet-header : (p : List ℕ) → One (λ (r : PacketHeader). r ≡ packetHeader.headerOf p)
+  pub front : (run : List ℕ) → One (λ (r : ℕ). r ≡ frontOf run)
   pub chain : (run : List ℕ) → One (λ (r : Bool). r ≡ chainOf run)
   pub distance : (run : List ℕ) (offset : ℕ) → One (λ (r : ℕ). r ≡ distanceOf run offset)
   -- channel: Record::fresh, busy, busy_count, lowest_busy, busy_state, follows, Store::fits, Store::place, Output::fits
@@ -95,9 +99,13 @@ pub record OneAnswer : Type 0 where
   pub store-fits : (n : ℕ) → One (λ (r : Bool). r ≡ storeFits packetSize.most n)
   pub store-place : (v : ℕ) → One (λ (r : ℕ). r ≡ placeOf packetSize.most v)
   pub output-fits : (n : ℕ) → One (λ (r : Bool). r ≡ outputFits packetSize.most n)
-  -- reader: walk, number, and read_core, read and read_kept, which have one contract
+  -- walk: walk, gap_for, steps
   pub walk : (limit : ℕ) (field : List ℕ) (from : ℕ) (out : List ℕ) (t : Tally)
       → One (λ (r : Ended × List ℕ). (r .0 ≡ finished packetSize.source t (walkOf packetSize.source limit (drop from field))) × (r .1 ≡ laid out (t .filled) (handedAll packetSize.source (walkOf packetSize.source limit (drop from field) .whole))))
+  pub gap-for : (c : Channel) (h : Header) → One (λ (r : ℕ). r ≡ gapFor c h)
+  pub steps : (limit : ℕ) (part field out : List ℕ) (h : Header) (c : Channel)
+      → One (λ (r : Course × List ℕ × List ℕ). Did packetSize.source (stepsOf packetSize.source limit part field h c) (r .0) part (r .1) out (r .2))
+  -- reader: number, and read_core, read and read_kept, which have one contract
   pub read-number : (r : ReadRefusal) → One (λ (n : ℕ). n ≡ readAnswers.numberOf r)
   pub read : (u : SetUp) (rec : Record) (store out f : List ℕ)
       → One (λ (r : Answer × Record × List ℕ × List ℕ). Read u rec store out f (r .0) (r .1) (r .2) (r .3))

@@ -7,7 +7,7 @@ ghost use lib.ListN.{length};
 ghost use Rattle.packet.specs.Chain.{frontOf, chainOf, distanceOf};
 
 // The octets of the whole packet that the run begins with; 0 if it begins with none.
-fn front(run: &[u8]) -> usize
+pub fn front(run: &[u8]) -> usize
     ensures { λ r. ⌜ r ≡ frontOf (now (run .entry)) ⌝ }
 {
     match Packet::size(run) {

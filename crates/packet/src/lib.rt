@@ -4,6 +4,7 @@ mod header;
 mod source;
 
 pub use chain::distance;
+pub use chain::front;
 pub use chain::is_chain;
 pub use header::Header;
 pub use source::Packet;

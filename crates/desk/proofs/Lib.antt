@@ -1,0 +1,4 @@
+pub mod CountLaws
+pub mod SavedLaws
+pub mod Spans
+pub mod Spelling

@@ -1,0 +1,4 @@
+pub mod Counting
+pub mod Numbers
+pub mod Saving
+pub mod Theorems

@@ -1,0 +1,21 @@
+-- What is proved of the desk besides the functions' contracts. The proof is in proofs/SavedLaws.antt, under this name in lower case.
+use mathlib.Core.List.{List}
+use mathlib.Core.Path.{_≡_}
+use Prim.Native.Nat.{ℕ}
+use lib.ListN.{take}
+use Rattle.packet.specs.Size.{most, source}
+use Rattle.frame.specs.Opening.{frameOf}
+use Rattle.frame.specs.declared.set_up.SetUp.{SetUp}
+use Rattle.channel.specs.declared.state.Record.{Record}
+use Rattle.reader.specs.Reading.{Read, doneBy}
+use Rattle.walk.specs.Walk.{handedAll}
+use Rattle.reader.specs.declared.reading.Answer.{Answer}
+use Rattle.reader.specs.declared.reading.Answer.the-variants.{Accepted}
+use Rattle.reader.specs.declared.reading.Report.{Report}
+use Rattle.desk.specs.Saving.{octetsOf}
+
+-- after a reading that accepted its frame, the octets that are saved are its delivered packets, end to end, and nothing else
+abbrev pub Saved-exactly : Type 0
+Saved-exactly = (u : SetUp) (rec : Record) (store out f : List ℕ) (answer : Answer) (rec′ : Record) (store′ out′ : List ℕ) (a : Report)
+    → Read u rec store out f answer rec′ store′ out′ → answer ≡ Accepted a
+    → take (octetsOf answer out′) out′ ≡ handedAll source (doneBy source most (frameOf u f) rec store f .whole)
