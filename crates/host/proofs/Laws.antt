@@ -19,6 +19,7 @@ use Rattle.frame.proofs.ClosingLaws.{bit-lt}
 use Rattle.frame.specs.Header.{headerOf}
 use Rattle.frame.specs.Opening.{frameOf, row1}
 use Rattle.frame.specs.SetUp.{fitsOf}
+use Rattle.frame.specs.declared.opening.Refusal.the-variants.{SetUpRange, FrameLength, FrameCheck, FrameVersion, OtherSpacecraft, SecondaryHeader, NoData, OrderOrSegment, PointerPlace}
 use Rattle.frame.specs.declared.set_up.SetUp.{SetUp}
 use Rattle.channel.specs.Rules.{recordFollows}
 use Rattle.channel.specs.State.{freshChannel}
@@ -28,21 +29,22 @@ use Rattle.channel.specs.declared.state.Record.{Record}
 use Rattle.channel.specs.declared.state.State.{State}
 use Rattle.channel.specs.declared.state.State.the-variants.{Hunting, Gathering, Skipping}
 use Rattle.reader.proofs.AfterLaws.{channels-kept}
-use Rattle.reader.proofs.Laws.{others-apart, refused-untouched}
+use Rattle.reader.proofs.Laws.{accepted-keeps, others-apart, refused-untouched}
 use Rattle.reader.proofs.ReadLaws.{at-record, found-none, leaves, ready, refuses}
-use Rattle.reader.specs.Answers.{valuesOf as readValues}
+use Rattle.reader.specs.Answers.{numberOf, valuesOf as readValues}
 use Rattle.reader.specs.Reading.{answerOf as readAnswer, doneBy, recordAfter, recordOf}
 use Rattle.reader.specs.declared.reading.Answer.{Answer as ReadAnswer}
 use Rattle.reader.specs.declared.reading.Answer.the-variants.{Refused, Accepted}
-use Rattle.reader.specs.declared.reading.Refusal.the-variants.{BrokenRecord}
+use Rattle.reader.specs.declared.reading.Refusal.{Refusal}
+use Rattle.reader.specs.declared.reading.Refusal.the-variants.{OfFrame, StoreLength, OutputLength, BrokenRecord}
 use Rattle.reader.specs.declared.reading.Report.{Report}
 use Rattle.writer.proofs.Laws.{refused-untouched as write-untouched}
 use Rattle.writer.specs.Answers.{valuesOf as writeValues}
 use Rattle.writer.specs.Writing.{answerOf as writeAnswer}
 use Rattle.writer.specs.declared.writing.Answer.{Answer as WriteAnswer}
 use Rattle.writer.specs.declared.writing.Place.{Place}
-use Rattle.host.specs.Answer.{laidWords}
-use Rattle.host.specs.Theorems.{Odd, OddChannel, Unpacks-packed, Packs-words, Fresh-words, Own-words, Odd-refused, Saved-unpacks, Others-keep, Read-refused, Write-refused, Answer-sizes, Laid-each, Read-one, Write-one, Busy-one, Syndrome-one}
+use Rattle.host.specs.Answer.{laidWords, readNumber}
+use Rattle.host.specs.Theorems.{Odd, OddChannel, Unpacks-packed, Packs-words, Fresh-words, Own-words, Odd-refused, Saved-follows, Saved-unpacks, Others-keep, Read-refused, Write-refused, Answer-sizes, Number-first, Laid-each, Read-one, Write-one, Busy-one, Syndrome-one}
 use Rattle.host.specs.Words.{brokenChannel, channelAt, eachChannel, numberWord, packedAll, packedChannel, stateWord, unpacked, unpackedChannel, unpackedState}
 use Rattle.host.proofs.FitLaws.{eight-channels, followed, whole-words}
 use Rattle.host.proofs.OwnLaws.{back, channel-follows, channel-own, drop-packed, each-at, own, unpacked-is, words-at}
@@ -182,6 +184,30 @@ saved-unpacks u words store out f answer r words′ store′ out′ answer′ c 
         ∙ back (recordOf u (unpacked words) store out f) (left-eight u (unpacked words) store out f a e n)
         (left-small u (unpacked words) store out f a e n (counts-small words))
 
+-- a refusal's number is not 0
+refused-not : (r : Refusal) → numberOf r ≡ 0 → ⊥
+refused-not (OfFrame SetUpRange) e = omega arith
+refused-not (OfFrame FrameLength) e = omega arith
+refused-not (OfFrame FrameCheck) e = omega arith
+refused-not (OfFrame FrameVersion) e = omega arith
+refused-not (OfFrame OtherSpacecraft) e = omega arith
+refused-not (OfFrame SecondaryHeader) e = omega arith
+refused-not (OfFrame NoData) e = omega arith
+refused-not (OfFrame OrderOrSegment) e = omega arith
+refused-not (OfFrame PointerPlace) e = omega arith
+refused-not StoreLength e = omega arith
+refused-not OutputLength e = omega arith
+refused-not BrokenRecord e = omega arith
+
+pub saved-follows : Saved-follows
+saved-follows u words store out f answer r words′ store′ out′ answer′ os of c z = go (readAnswer u (unpacked words) store out f) refl
+  where
+    go : (a : ReadAnswer) → readAnswer u (unpacked words) store out f ≡ a → recordFollows source most store′ (unpacked words′) ≡ true
+    go (Refused x) e = absurd (refused-not x (sym (rw e at (c .number)) ∙ z))
+    go (Accepted a) e =
+        rw (saved-unpacks u words store out f answer r words′ store′ out′ answer′ c, c .store-left)
+        (accepted-keeps source most source-sound u (unpacked words) store out f a os of (eight-channels words) e .follows)
+
 pub others-keep : Others-keep
 others-keep u words store out f answer r words′ store′ out′ answer′ a w c e h n =
     let rec = unpacked words in
@@ -222,6 +248,15 @@ read-size (Accepted a) = refl
 pub answer-sizes : Answer-sizes
 unfolding writeValues
 answer-sizes = (read-size, λ a p. refl, λ cs. refl)
+
+read-first : (a : ReadAnswer) → getD (readValues a) 0 0 ≡ readNumber a
+unfolding readValues
+read-first (Refused r) = refl
+read-first (Accepted a) = refl
+
+pub number-first : Number-first
+unfolding writeValues
+number-first = (read-first, λ a p. refl, λ cs. refl)
 
 pub laid-each : Laid-each
 unfolding laidWords

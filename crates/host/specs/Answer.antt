@@ -49,7 +49,7 @@ savedBy (Accepted a) words after = packed after
 abbrev pub busyValues : List Channel → List ℕ
 busyValues cs = maskOf cs ∷ countOf cs ∷ lowestOf cs ∷ []
 
--- each value of a report fits a word
+-- the values of a report that are wider than a word in the reader fit one
 pub record ReportFits (a : Report) : Type 0 where
   pub channel : a .header .channel < 2 ^ 32
   pub pointer : a .header .pointer < 2 ^ 32

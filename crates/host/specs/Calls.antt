@@ -14,7 +14,7 @@ use Rattle.host.specs.Answer.{laidWords, readNumber, savedBy, busyValues
 use Rattle.host.specs.Busy.{seen}
 use Rattle.host.specs.Words.{unpacked}
 
--- scowdeck_read: the reader's answer for the record that the words are
+-- scowdeck_read: the reader's answer for the record that the words are; its 20 words are those of `readValues`, in that order
 pub record ReadCall (u : SetUp) (words store out f answer : List ℕ) (r : ℕ) (words′ store′ out′ answer′ : List ℕ) : Type 0 where
   pub number : r ≡ readNumber (readAnswer u (unpacked words) store out f)
   pub record-left : words′ ≡ savedBy (readAnswer u (unpacked words) store out f) words (recordOf u (unpacked words) store out f)
@@ -22,13 +22,13 @@ pub record ReadCall (u : SetUp) (words store out f answer : List ℕ) (r : ℕ) 
   pub output-left : out′ ≡ readOutput u (unpacked words) store out f
   pub answer-left : answer′ ≡ laidWords answer (readValues (readAnswer u (unpacked words) store out f))
 
--- scowdeck_write: the writer's answer, and where the next call goes on
+-- scowdeck_write: the writer's answer, and where the next call goes on; its 5 words are those of `writeValues`
 pub record WriteCall (u : SetUp) (channel : ℕ) (p : Place) (w : ControlWord) (run out answer : List ℕ) (r : ℕ) (out′ answer′ : List ℕ) : Type 0 where
   pub number : r ≡ answerNumber (writeAnswer u channel p run out)
   pub output-left : out′ ≡ writeOutput u channel p w run out
   pub answer-left : answer′ ≡ laidWords answer (writeValues (writeAnswer u channel p run out) (nextOf u channel p w run out))
 
--- scowdeck_busy: the mask of the states seen
+-- scowdeck_busy: the mask of the states seen; its 3 words are those of `busyValues`
 pub record BusyCall (words answer : List ℕ) (r : ℕ) (answer′ : List ℕ) : Type 0 where
   pub mask : r ≡ maskOf (seen words)
   pub answer-left : answer′ ≡ laidWords answer (busyValues (seen words))

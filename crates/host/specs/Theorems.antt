@@ -5,6 +5,7 @@ use mathlib.Core.List.{List}
 use mathlib.Core.Logic.{_⊎_, _↔_}
 use Prim.Native.Nat.{ℕ, _+_, _*_, _/_, _%_, _^_, _<_, _≤_}
 use lib.ListN.{length, getD, take, drop, replicate}
+use Rattle.packet.specs.Family.{Octets}
 use Rattle.packet.specs.Size.{most, source}
 use Rattle.crc.specs.Register.{syndromeOf}
 use Rattle.frame.specs.Opening.{row1}
@@ -21,11 +22,11 @@ use Rattle.reader.specs.declared.reading.Answer.{Answer as ReadAnswer}
 use Rattle.reader.specs.declared.reading.Answer.the-variants.{Refused, Accepted}
 use Rattle.reader.specs.declared.reading.Refusal.the-variants.{BrokenRecord}
 use Rattle.reader.specs.declared.reading.Report.{Report}
-use Rattle.writer.specs.Answers.{valuesOf as writeValues}
+use Rattle.writer.specs.Answers.{answerNumber, valuesOf as writeValues}
 use Rattle.writer.specs.Writing.{answerOf as writeAnswer}
 use Rattle.writer.specs.declared.writing.Answer.{Answer as WriteAnswer}
 use Rattle.writer.specs.declared.writing.Place.{Place}
-use Rattle.host.specs.Answer.{laidWords, busyValues}
+use Rattle.host.specs.Answer.{laidWords, busyValues, readNumber}
 use Rattle.host.specs.Busy.{seen}
 use Rattle.host.specs.Calls.{BusyCall, ReadCall, WriteCall}
 use Rattle.host.specs.Words.{NumbersFit, packed, unpacked}
@@ -73,6 +74,11 @@ abbrev pub Saved-unpacks : Type 0
 Saved-unpacks = (u : SetUp) (words store out f answer : List ℕ) (r : ℕ) (words′ store′ out′ answer′ : List ℕ)
     → ReadCall u words store out f answer r words′ store′ out′ answer′ → unpacked words′ ≡ recordOf u (unpacked words) store out f
 
+-- and with the store that an accepted call leaves they pass test 4 again
+abbrev pub Saved-follows : Type 0
+Saved-follows = (u : SetUp) (words store out f answer : List ℕ) (r : ℕ) (words′ store′ out′ answer′ : List ℕ) → Octets store → Octets f
+    → ReadCall u words store out f answer r words′ store′ out′ answer′ → r ≡ 0 → recordFollows source most store′ (unpacked words′) ≡ true
+
 -- channels that an accepted frame is not of keep their words
 abbrev pub Others-keep : Type 0
 Others-keep = (u : SetUp) (words store out f answer : List ℕ) (r : ℕ) (words′ store′ out′ answer′ : List ℕ) (a : Report) (w : ℕ)
@@ -94,6 +100,11 @@ Write-refused = (u : SetUp) (channel : ℕ) (p : Place) (w : ControlWord) (run o
 abbrev pub Answer-sizes : Type 0
 Answer-sizes = ((a : ReadAnswer) → length (readValues a) ≡ 20) × ((a : WriteAnswer) (p : Place) → length (writeValues a p) ≡ 5)
     × ((cs : List Channel) → length (busyValues cs) ≡ 3)
+
+-- and the number that is returned is the first
+abbrev pub Number-first : Type 0
+Number-first = ((a : ReadAnswer) → getD (readValues a) 0 0 ≡ readNumber a) × ((a : WriteAnswer) (p : Place) → getD (writeValues a p) 0 0 ≡ answerNumber a)
+    × ((cs : List Channel) → getD (busyValues cs) 0 0 ≡ maskOf cs)
 
 -- the answer keeps its length, gets the words that fit, and keeps the rest
 pub record LaidEach (old new : List ℕ) : Type 0 where
