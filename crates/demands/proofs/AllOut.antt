@@ -12,16 +12,22 @@ use lib.ListN.{length, take, drop, replicate, length-append, length-replicate, r
 use lib.Seq.{drop-at}
 use borrow.Author.Tests.{lt-ltb, le-ltb, le-leb, lt-leb, leb-true}
 use Rattle.octets.specs.Pick.{pick}
-use Rattle.packet.specs.Family.{AllWhole}
+use Rattle.packet.specs.Family.{Family, AllWhole}
 use Rattle.packet.specs.Size.{source, idleOf}
 use Rattle.packet.specs.Theorems.{endToEnd}
 use Rattle.packet.proofs.Laws.{source-lawful}
 use Rattle.frame.specs.declared.set_up.SetUp.{SetUp}
-use Rattle.demands.specs.Demand2.{fitting, dueInAll}
+use Rattle.demands.specs.Demand2.{fitting}
 use Rattle.demands.specs.History.{allArrived, brought, carried, lastIn, wanted}
 use Rattle.demands.proofs.Due.{all-came, take-same}
 use Rattle.demands.proofs.Fillers.{AllIdle}
 use Rattle.demands.proofs.Stream.{whole-some}
+
+-- what is due in all the calls, one after the other, where every frame arrives
+unfoldable pub dueInAll : Family → ℕ → SetUp → List ℕ → List (List ℕ) → List Bool → List (List ℕ) → List (List ℕ)
+dueInAll F limit u tail ps came [] = []
+dueInAll F limit u tail ps came (f ∷ fs) =
+    wanted F (brought limit u tail ps came f) ++ dueInAll F limit u tail ps (came ++ replicate (carried u f) true) fs
 
 -- of packets from place s on, those of at most `limit` octets that end behind place a and not behind place b
 ending : ℕ → ℕ → ℕ → ℕ → List (List ℕ) → List (List ℕ)

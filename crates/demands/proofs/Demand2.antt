@@ -24,15 +24,16 @@ use Rattle.reader.specs.Reading.{recordOver, storeOver}
 use Rattle.writer.specs.Laying.{shortIdle}
 use Rattle.writer.specs.declared.writing.Place.{Place}
 use Rattle.writer.proofs.WritingSteps.{border-passes}
-use Rattle.demands.specs.Demand2.{Writing, Demand2-general, Demand2, ReadsBack, Fair, Roomy, frames, fillers, placeAfter, dueInAll, fitting}
-use Rattle.demands.specs.History.{Allowed, wanted}
+use Rattle.demands.specs.Demand2.{Writing, Demand2-general, Demand2, ReadsBack, Fair, Roomy, frames, fillers, placeAfter, handedOut, fitting}
+use Rattle.demands.specs.History.{Allowed, Delivers, wanted}
 use Rattle.demands.specs.History.Event.{arrives}
 use Rattle.demands.specs.Sender.{Sends, streamOf}
-use Rattle.demands.proofs.AllOut.{total, all-due, none-due}
 use Rattle.walk.proofs.SourceLaws.{source-sound}
+use Rattle.demands.proofs.AllOut.{dueInAll, total, all-due, none-due}
 use Rattle.demands.proofs.Demand3.{demand3-general, from-fresh}
 use Rattle.demands.proofs.Fillers.{whole-append}
 use Rattle.demands.proofs.Frame.{none-there}
+use Rattle.demands.proofs.HandsOut.{handed-due}
 use Rattle.demands.proofs.Hears.Reads.{unheard}
 use Rattle.demands.proofs.History.{Kept}
 use Rattle.demands.proofs.Lays.{toSend, length-tail}
@@ -112,17 +113,34 @@ module _ (limit : ℕ) (G : Sound source limit) (u : SetUp) (v : ℕ) (ps : List
               (lost-free (record { done = []; split = refl; place = omega arith; over = inl refl }));
         }
 
-    back : (outs : List (List ℕ)) → length outs ≡ length cs → Roomy limit outs → ReadsBack limit u v ps p cs store outs
-    back outs many roomy =
-        record {
-          written = none-refused cs p writes fair;
-          gets-there = λ h. gets-there cs p writes fair (omega arith);
-          read-back = from-fresh source limit (demand3-general source limit G) u v (p .count .0) (drop (7 - p .«left_over») shortIdle) (ps ++ fillers u v (endToEnd ps) p cs)
-              (frames u v (endToEnd ps) p cs) store (map arrives outs) whole-all frames-sent channel whole octets
-              (all-arrive limit u v (frames u v (endToEnd ps) p cs) outs freshRecord store false (many ∙ sym (as-many u v (endToEnd ps) cs p)) roomy);
-          smooth = smooth G whole-all (frames u v (endToEnd ps) p cs) outs freshRecord store false [] starts roomy;
-          all-out = λ e. all-out-by e (carries-all real cs p writes fair);
-        }
+    module _ (outs : List (List ℕ)) (many : length outs ≡ length cs) (roomy : Roomy limit outs) where
+      as-frames : length outs ≡ length (frames u v (endToEnd ps) p cs)
+      as-frames = many ∙ sym (as-many u v (endToEnd ps) cs p)
+
+      delivers : Delivers source limit u (drop (7 - p .«left_over») shortIdle) (ps ++ fillers u v (endToEnd ps) p cs) freshRecord store []
+          (frames u v (endToEnd ps) p cs) (map arrives outs)
+      delivers =
+          from-fresh source limit (demand3-general source limit G) u v (p .count .0) (drop (7 - p .«left_over») shortIdle)
+          (ps ++ fillers u v (endToEnd ps) p cs) (frames u v (endToEnd ps) p cs) store (map arrives outs) whole-all frames-sent channel whole
+          octets (all-arrive limit u v (frames u v (endToEnd ps) p cs) outs freshRecord store false as-frames roomy)
+
+      all-handed : dueInAll source limit u (drop (7 - p .«left_over») shortIdle) (ps ++ fillers u v (endToEnd ps) p cs) []
+          (frames u v (endToEnd ps) p cs) ≡ wanted source (fitting limit ps)
+          → handedOut limit u freshRecord store (frames u v (endToEnd ps) p cs) outs ≡ wanted source (fitting limit ps)
+      all-handed e =
+          handed-due limit u (drop (7 - p .«left_over») shortIdle) (ps ++ fillers u v (endToEnd ps) p cs) whole-all
+          (frames u v (endToEnd ps) p cs) outs freshRecord store [] as-frames delivers
+          ∙ e
+
+      back : ReadsBack limit u v ps p cs store outs
+      back =
+          record {
+            written = none-refused cs p writes fair;
+            gets-there = λ h. gets-there cs p writes fair (omega arith);
+            read-back = delivers;
+            smooth = smooth G whole-all (frames u v (endToEnd ps) p cs) outs freshRecord store false [] starts roomy;
+            all-out = λ e. all-handed (all-out-by e (carries-all real cs p writes fair));
+          }
 
 -- for every limit that is wide enough
 pub demand2-general : Demand2-general

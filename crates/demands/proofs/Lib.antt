@@ -11,6 +11,7 @@ pub mod FewEnough
 pub mod Field
 pub mod Fillers
 pub mod Frame
+pub mod HandsOut
 pub mod Hears
 pub mod History
 pub mod Lays

@@ -41,5 +41,6 @@ Demand3-freshOver F limit = (u : SetUp) (v count : ℕ) (tail : List ℕ) (ps fs
     → Allowed F limit u v freshRecord store false 0 fs es
     → Delivers F limit u tail ps freshRecord store [] fs es
 
+-- of source packets of up to 4,096 octets
 abbrev pub Demand3-fresh : Type 0
 Demand3-fresh = Demand3-freshOver source most

@@ -104,7 +104,9 @@ Delivers F limit u tail ps rec store came (f ∷ fs) (lost ∷ es) = Delivers F 
 Delivers F limit u tail ps rec store came [] (arrives out ∷ es) = Unit {0}
 Delivers F limit u tail ps rec store came (f ∷ fs) (arrives out ∷ es) =
     Call F limit u rec store out f (wanted F (brought limit u tail ps came f)) (unwanted F (brought limit u tail ps came f))
-    × Delivers F limit u tail ps (recordOver F limit u rec store out f) (storeOver F limit u rec store out f) (came ++ replicate (carried u f) true) fs es
+    × Delivers F limit u tail ps (recordOver F limit u rec store out f) (storeOver F limit u rec store out f)
+    (came ++ replicate (carried u f) true) fs es
 Delivers F limit u tail ps rec store came fs (other u′ true s out f ∷ es) =
     Delivers F limit u tail ps (recordOver F limit u′ rec store out f) (storeOver F limit u′ rec store out f) came fs es
-Delivers F limit u tail ps rec store came fs (other u′ false s out f ∷ es) = Delivers F limit u tail ps (recordOver F limit u′ rec s out f) store came fs es
+Delivers F limit u tail ps rec store came fs (other u′ false s out f ∷ es) =
+    Delivers F limit u tail ps (recordOver F limit u′ rec s out f) store came fs es
