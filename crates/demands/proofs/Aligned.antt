@@ -66,7 +66,8 @@ pub record Ran (d : Done) (ws : List (List ℕ)) : Type 0 where
 
 -- a packet of which `begun` came and `left` is to come is held, or skipped if it is too long
 pub data Standing (F : Family) (limit : ℕ) (s : State) (held begun left : List ℕ) : Type 0 where
-  gathering : s ≡ Gathering (length begun) → held ≡ begun → (length (begun ++ left) ≤ limit) ⊎ (F .size begun ≡ Wait) → Standing F limit s held begun left
+  gathering : s ≡ Gathering (length begun) → held ≡ begun → (length (begun ++ left) ≤ limit) ⊎ (F .size begun ≡ Wait)
+      → Standing F limit s held begun left
   skipping : s ≡ Skipping (length left) → limit < length (begun ++ left) → Standing F limit s held begun left
 
 module _ (F : Family) (laws : Lawful F) (limit : ℕ) (ws : List (List ℕ)) (w : AllWhole F ws) (f : AllFit limit ws) where
@@ -89,7 +90,8 @@ module _ (F : Family) (laws : Lawful F) (limit : ℕ) (ws : List (List ℕ)) (w 
 
   -- the beginning of a packet
   module _ (begun left : List ℕ) (p : Whole F (begun ++ left)) (a : 1 ≤ length begun) (b : 1 ≤ length left) where
-    cut-done : walkOf F limit begun ≡ record { whole = []; end = End.Cut (length begun); rest = begun } → (length (begun ++ left) ≤ limit) ⊎ (F .size begun ≡ Wait)
+    cut-done : walkOf F limit begun ≡ record { whole = []; end = End.Cut (length begun); rest = begun }
+        → (length (begun ++ left) ≤ limit) ⊎ (F .size begun ≡ Wait)
         → let d : Done = ended (walkOf F limit (endToEnd ws ++ begun)) in Ran d ws × Standing F limit (d .state) (d .held) begun left
     unfolding endedBy cutOf
     cut-done s o =

@@ -139,7 +139,8 @@ unfolding wanted
 wanted-append [] b = refl
 wanted-append (p ∷ a) b = go (idleOf p) (wanted-append a b)
   where
-    go : (t : Bool) → wanted source (a ++ b) ≡ wanted source a ++ wanted source b → pick t (wanted source (a ++ b)) (p ∷ wanted source (a ++ b)) ≡ pick t (wanted source a) (p ∷ wanted source a) ++ wanted source b
+    go : (t : Bool) → wanted source (a ++ b) ≡ wanted source a ++ wanted source b
+        → pick t (wanted source (a ++ b)) (p ∷ wanted source (a ++ b)) ≡ pick t (wanted source a) (p ∷ wanted source a) ++ wanted source b
     go true e = e
     go false e = ap (λ (l : List (List ℕ)). p ∷ l) e
 
@@ -175,7 +176,8 @@ unfolding ending wanted
 idle-none limit a b s [] i = refl
 idle-none limit a b s (g ∷ gs) i = go ((ltb a (s + length g) && leb (s + length g) b) && leb (length g) limit) (idle-none limit a b (s + length g) gs (i .1))
   where
-    go : (t : Bool) → wanted source (ending limit a b (s + length g) gs) ≡ [] → wanted source (pick t (g ∷ ending limit a b (s + length g) gs) (ending limit a b (s + length g) gs)) ≡ []
+    go : (t : Bool) → wanted source (ending limit a b (s + length g) gs) ≡ []
+        → wanted source (pick t (g ∷ ending limit a b (s + length g) gs) (ending limit a b (s + length g) gs)) ≡ []
     go true e = rw (i .0) e
     go false e = e
 
@@ -203,7 +205,8 @@ fits-out limit b s (p ∷ ps) gs w i h =
     go false e = e
 
 module _ (limit : ℕ) (u : SetUp) (tail : List ℕ) (ps gs fs : List (List ℕ)) (w : AllWhole source (ps ++ gs)) (i : AllIdle gs) where
-  pub all-due : AllWhole source ps → length tail + length (endToEnd ps) ≤ total u fs → dueInAll source limit u tail (ps ++ gs) [] fs ≡ wanted source (fitting limit ps)
+  pub all-due : AllWhole source ps → length tail + length (endToEnd ps) ≤ total u fs
+      → dueInAll source limit u tail (ps ++ gs) [] fs ≡ wanted source (fitting limit ps)
   all-due v h =
       due-together limit u tail (ps ++ gs) w fs 0
       ∙ ap (λ (k : ℕ). wanted source (ending limit 0 k (length tail) (ps ++ gs))) (zero-add (total u fs))

@@ -37,7 +37,8 @@ record Full (F : Family) (limit : ℕ) (came : List Bool) (q field : List ℕ) (
   rest-late : lastIn limit (length came) (length came + length field) (came ++ replicate (length field) true) (length came + length q + length (endToEnd ws)) r
       ≡ []
 
-module _ {F : Family} {limit : ℕ} (G : Sound F limit) {tail : List ℕ} {ps : List (List ℕ)} {came : List Bool} {q : List ℕ} {behind : List (List ℕ)} (w : AllWhole F ps)
+module _ {F : Family} {limit : ℕ} (G : Sound F limit)
+    {tail : List ℕ} {ps : List (List ℕ)} {came : List Bool} {q : List ℕ} {behind : List (List ℕ)} (w : AllWhole F ps)
     (s : Spot tail ps came q behind) (field : List ℕ) (few : length field ≤ 2042) where
   ends-full : (ws behind′ : List (List ℕ)) → behind ≡ ws ++ behind′ → field ≡ q ++ endToEnd ws
       → Full F limit came q field ws behind′ (length (endToEnd ws))
@@ -76,15 +77,18 @@ module _ {F : Family} {limit : ℕ} (G : Sound F limit) {tail : List ℕ} {ps : 
         let y = whole-right F ws ((begun ++ left) ∷ behind′) v in y .0
 
 -- a packet that ends in this field is not too long, if its held octets did not tell otherwise
-within : {F : Family} {limit : ℕ} (G : Sound F limit) (held q : List ℕ) → (length (held ++ q) ≤ limit) ⊎ (F .size held ≡ Wait) → length q ≤ 2042 → length (held ++ q) ≤ limit
+within : {F : Family} {limit : ℕ} (G : Sound F limit) (held q : List ℕ) → (length (held ++ q) ≤ limit) ⊎ (F .size held ≡ Wait) → length q ≤ 2042
+    → length (held ++ q) ≤ limit
 within G held q (inl h) j = h
 within G held q (inr h) j = omega (arith, G .laws .header-tells held h, length-append held q)
 
-module _ {F : Family} {limit : ℕ} (G : Sound F limit) {tail : List ℕ} {ps : List (List ℕ)} {came : List Bool} {q : List ℕ} {behind : List (List ℕ)} {rest : List Mark} (w : AllWhole F ps)
+module _ {F : Family} {limit : ℕ} (G : Sound F limit)
+    {tail : List ℕ} {ps : List (List ℕ)} {came : List Bool} {q : List ℕ} {behind : List (List ℕ)} {rest : List Mark} (w : AllWhole F ps)
     (field : List ℕ) (some : 1 ≤ length field) (few : length field ≤ 2042) (pointer : ℕ)
     (points : pointer ≡ calledAt (length field) (length q)) where
   -- hunting, with no packet under way that could be finished
-  pub hunted-good : Lost tail ps came q behind → Next q behind field rest → Good F limit (hunted F limit field pointer) tail ps came (length field) rest
+  pub hunted-good : Lost tail ps came q behind → Next q behind field rest
+      → Good F limit (hunted F limit field pointer) tail ps came (length field) rest
   unfolding inner
   hunted-good l (still a b e h f r) =
       let d : length field ≡ length a = ap length f in
@@ -186,7 +190,8 @@ module _ {F : Family} {limit : ℕ} (G : Sound F limit) {tail : List ℕ} {ps : 
           told (ap (F .size) (ap (λ (y : List ℕ). held ++ y) f ∙ sym (append-assoc held q x))
           ∙ G .laws .total-stays (held ++ q) x (length (held ++ q)) (inside-whole F s w))
 
-      part : (a b : List ℕ) → q ≡ a ++ b → 1 ≤ length b → field ≡ a → (F .size (held ++ a) ≡ Wait) ⊎ (F .size (held ++ a) ≡ Total (length (held ++ a ++ b)))
+      part : (a b : List ℕ) → q ≡ a ++ b → 1 ≤ length b → field ≡ a
+          → (F .size (held ++ a) ≡ Wait) ⊎ (F .size (held ++ a) ≡ Total (length (held ++ a ++ b)))
           → agrees (length field) (length held) (F .size (held ++ field)) pointer ≡ true
       part a b e h f (inl z) =
           agrees-wait (length field) (length held) _ pointer (s .some) (ap (λ (y : List ℕ). F .size (held ++ y)) f ∙ z)

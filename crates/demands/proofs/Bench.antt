@@ -147,7 +147,8 @@ module _ (store : List ℕ) (h : length store ≡ most * 8) where
       ∙ part-length most 3 s (laid (partOf most 3 s) 0 []) store-after-length (omega arith) (ap length (laid-nil (partOf most 3 s) 0) ∙ l)
 
   -- the third reading, with B2 and without
-  told3 : (out : List ℕ) → outputFits most (length out) ≡ true → told (recordAfter 4 (Gathering 6)) (storeAfter store) out frame3 ≡ values 2 11 6 2046 1 0 0 1
+  told3 : (out : List ℕ) → outputFits most (length out) ≡ true
+      → told (recordAfter 4 (Gathering 6)) (storeAfter store) out frame3 ≡ values 2 11 6 2046 1 0 0 1
   unfolding read.answerOver read.readTableOver read.kindOf read.reportOf row1 fitsOf openTable row5 row6 row7 row8 row9 row10 row11 row12 secondarySize dataSize wordOf frameOf headerOf firstCause bitsAt numberAt stepsOf carriesNone gapFor gapOf hunted endedBy courseOf walkOf turns turn seenOf front cutOf sizeOf idleOf talliedAll tallied reading.valuesOf resumed recordAfter channelAfter busyState
   told3 out o =
       let p = passes-after out o in

@@ -81,7 +81,8 @@ module _ (u : SetUp) (f : List ℕ) (x : Frame) (opens : openOf u f ≡ Opened.A
   pub carried-all : (x .header .pointer ≡ idleData → ⊥) → carried u f ≡ x .size
   carried-all n = rw (← frame-is, ne-eqb (x .header .pointer) idleData n)
 
-module _ {F : Family} {limit : ℕ} (G : Sound F limit) (u : SetUp) (rec : Record) (store out f : List ℕ) (x : Frame) (fine : Fine F limit rec store) (room : limit + mostLength ≤ length out)
+module _ {F : Family} {limit : ℕ} (G : Sound F limit)
+    (u : SetUp) (rec : Record) (store out f : List ℕ) (x : Frame) (fine : Fine F limit rec store) (room : limit + mostLength ≤ length out)
     (opens : openOf u f ≡ Opened.Accepted x) where
   no-cause : (x ≡ frameOf u f) × None (readTableOver F limit u rec store out f)
   unfolding storeFits outputFits
@@ -133,7 +134,8 @@ pub record Same (F : Family) (limit : ℕ) (v : ℕ) (rec rec′ : Record) (stor
   pub channel : getD (rec′ .channels) v freshChannel ≡ getD (rec .channels) v freshChannel
   pub part : partOf limit v store′ ≡ partOf limit v store
 
-pub others-keep : {F : Family} {limit : ℕ} (G : Sound F limit) (v : ℕ) (u : SetUp) (rec : Record) (store out f : List ℕ) → v < 8 → Fine F limit rec store → Octets f → Harmless F limit v u rec store out f
+pub others-keep : {F : Family} {limit : ℕ} (G : Sound F limit) (v : ℕ) (u : SetUp) (rec : Record) (store out f : List ℕ) → v < 8
+    → Fine F limit rec store → Octets f → Harmless F limit v u rec store out f
     → Same F limit v rec (recordOver F limit u rec store out f) store (storeOver F limit u rec store out f)
 others-keep {F} {limit} G v u rec store out f h fine real (inl (r, e)) =
     let t = refused-untouched F limit u rec store out f r e in
@@ -153,7 +155,8 @@ others-keep {F} {limit} G v u rec store out f h fine real (inr (a, (e, n))) =
     }
 
 -- a call with a store that test 2 refuses leaves the record
-pub other-store : (F : Family) (limit : ℕ) (u : SetUp) (rec : Record) (store out f : List ℕ) → storeFits limit (length store) ≡ false → recordOver F limit u rec store out f ≡ rec
+pub other-store : (F : Family) (limit : ℕ) (u : SetUp) (rec : Record) (store out f : List ℕ) → storeFits limit (length store) ≡ false
+    → recordOver F limit u rec store out f ≡ rec
 other-store F limit u rec store out f e = go (fitsOf u) refl
   where
     go : (b : Bool) → fitsOf u ≡ b → recordOver F limit u rec store out f ≡ rec

@@ -50,7 +50,8 @@ unfolding frames
 as-many u v run [] p = refl
 as-many u v run (c ∷ cs) p = ap suc (as-many u v run cs _)
 
-all-arrive : (limit : ℕ) (u : SetUp) (v : ℕ) (fs outs : List (List ℕ)) (rec : Record) (store : List ℕ) (heard : Bool) → length outs ≡ length fs → Roomy limit outs
+all-arrive : (limit : ℕ) (u : SetUp) (v : ℕ) (fs outs : List (List ℕ)) (rec : Record) (store : List ℕ) (heard : Bool) → length outs ≡ length fs
+    → Roomy limit outs
     → Allowed source limit u v rec store heard 0 fs (map arrives outs)
 all-arrive limit u v fs [] rec store heard e r = tt
 all-arrive limit u v [] (o ∷ os) rec store heard e r = absurd (omega arith)

@@ -78,13 +78,15 @@ module _ (limit a b : ℕ) (came : List Bool) (s : ℕ) (p : List ℕ) (ps : Lis
   due h i j k = rw (lt-ltb a (s + length p) h, le-leb (s + length p) b i, le-leb (length p) limit j, k)
 
 -- packets behind place b, and packets up to place a
-pub late-all : (F : Family) (laws : Lawful F) (limit a b : ℕ) (came : List Bool) (s : ℕ) (ps : List (List ℕ)) → AllWhole F ps → b ≤ s → lastIn limit a b came s ps ≡ []
+pub late-all : (F : Family) (laws : Lawful F) (limit a b : ℕ) (came : List Bool) (s : ℕ) (ps : List (List ℕ)) → AllWhole F ps → b ≤ s
+    → lastIn limit a b came s ps ≡ []
 unfolding lastIn
 late-all F laws limit a b came s [] w h = refl
 late-all F laws limit a b came s (p ∷ ps) w h =
     late limit a b came s p ps (omega (arith, whole-some F laws p (w .0))) ∙ late-all F laws limit a b came (s + length p) ps (w .1) (omega arith)
 
-pub late-first : (F : Family) (laws : Lawful F) (limit a b : ℕ) (came : List Bool) (s : ℕ) (p : List ℕ) (ps : List (List ℕ)) → AllWhole F ps → b < s + length p
+pub late-first : (F : Family) (laws : Lawful F) (limit a b : ℕ) (came : List Bool) (s : ℕ) (p : List ℕ) (ps : List (List ℕ)) → AllWhole F ps
+    → b < s + length p
     → lastIn limit a b came s (p ∷ ps) ≡ []
 late-first F laws limit a b came s p ps w h = late limit a b came s p ps h ∙ late-all F laws limit a b came (s + length p) ps w (omega arith)
 
@@ -97,7 +99,8 @@ early-all limit a b came s (d ∷ ds) ps h =
     ∙ ap (λ (n : ℕ). lastIn limit a b came n ps) (omega arith)
 
 -- whole packets that lie where everything arrived
-pub due-all : (F : Family) (laws : Lawful F) (limit a b : ℕ) (pre : List Bool) (m s : ℕ) (ws ps : List (List ℕ)) → AllWhole F ws → AllFit limit ws → length pre ≡ s → a ≤ s
+pub due-all : (F : Family) (laws : Lawful F) (limit a b : ℕ) (pre : List Bool) (m s : ℕ) (ws ps : List (List ℕ)) → AllWhole F ws
+    → AllFit limit ws → length pre ≡ s → a ≤ s
     → length (endToEnd ws) ≤ m → s + length (endToEnd ws) ≤ b
     → lastIn limit a b (pre ++ replicate m true) s (ws ++ ps) ≡ ws ++ lastIn limit a b (pre ++ replicate m true) (s + length (endToEnd ws)) ps
 due-all F laws limit a b pre m s [] ps w f e h i j = ap (λ (n : ℕ). lastIn limit a b (pre ++ replicate m true) n ps) (sym (add-zero s))

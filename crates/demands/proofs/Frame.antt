@@ -60,7 +60,8 @@ pub hunted-none : (F : Family) (limit : ℕ) (field : List ℕ) (pointer : ℕ) 
 unfolding hunted
 hunted-none F limit field pointer e = rw (eq-eqb pointer noneStarts e)
 
-pub hunted-at : (F : Family) (limit : ℕ) (field : List ℕ) (pointer : ℕ) → pointer < 2047 → hunted F limit field pointer ≡ ended (walkOf F limit (drop pointer field))
+pub hunted-at : (F : Family) (limit : ℕ) (field : List ℕ) (pointer : ℕ) → pointer < 2047
+    → hunted F limit field pointer ≡ ended (walkOf F limit (drop pointer field))
 unfolding hunted
 hunted-at F limit field pointer h = rw (ne-eqb pointer noneStarts (λ z. omega arith))
 

@@ -80,7 +80,8 @@ pub gap-heard : (c : Channel) (h : Header) (missing : ℕ) → c .heard ≡ true
 unfolding gapFor
 gap-heard c h missing e l k m g = rw e (sym (gap-exactly (h .count .0) (c .last .0) missing k l (omega arith) .1 g))
 
-pub unheard-hunts : (F : Family) (limit : ℕ) (part : List ℕ) (c : Channel) → channelFollows F limit part c ≡ true → c .heard ≡ false → c .state ≡ Hunting
+pub unheard-hunts : (F : Family) (limit : ℕ) (part : List ℕ) (c : Channel) → channelFollows F limit part c ≡ true → c .heard ≡ false
+    → c .state ≡ Hunting
 unfolding channelFollows hunts
 unheard-hunts F limit part c f e = go (c .state) (rw e at f)
   where
@@ -96,7 +97,8 @@ not-idle D e pointer few points z = go (decLt e D)
     go (yes l) = omega (arith, called-below D e l)
     go (no l) = omega (arith, called-beyond D e (omega arith))
 
-module _ {F : Family} {limit : ℕ} (G : Sound F limit) {c : Channel} {part tail : List ℕ} {ps : List (List ℕ)} {came : List Bool} {q : List ℕ} {behind : List (List ℕ)} {heard : Bool}
+module _ {F : Family} {limit : ℕ} (G : Sound F limit)
+    {c : Channel} {part tail : List ℕ} {ps : List (List ℕ)} {came : List Bool} {q : List ℕ} {behind : List (List ℕ)} {heard : Bool}
     {missing count : ℕ} {rest : List Mark} (w : AllWhole F ps) (field : List ℕ) (h : Header) (private : h .synchronisation ≡ false)
     (reads : Reads F limit c part tail ps came q behind heard missing count) where
   -- an idle frame arrived
@@ -110,7 +112,8 @@ module _ {F : Family} {limit : ℕ} (G : Sound F limit) {c : Channel} {part tail
         → Next q behind field rest → Good F limit (stepsOf F limit part field h c) tail ps came (length field) rest
     packets-arrive f k e m n = go reads
       where
-        go : Reads F limit c part tail ps came q behind heard missing count → Good F limit (stepsOf F limit part field h c) tail ps came (length field) rest
+        go : Reads F limit c part tail ps came q behind heard missing count
+            → Good F limit (stepsOf F limit part field h c) tail ps came (length field) rest
         go (unheard a b l) =
             rw (steps-on F limit part field h c private (not-idle (length field) (length q) (h .pointer) few points) (gap-unheard c h a))
             (resumed-good G w field some few (h .pointer) points (c .state) part (hunting (unheard-hunts F limit part c f a) l) n)

@@ -73,7 +73,8 @@ lose-reads (unheard a b l) n = unheard a b n
 lose-reads (stale a b h e m l) n = stale a b h (omega arith) (omega arith) n
 lose-reads (live a b h e m s) n = stale a b h (omega arith) (omega arith) n
 
-module _ {F : Family} {limit : ℕ} (G : Sound F limit) {u : SetUp} {v : ℕ} {tail : List ℕ} {ps : List (List ℕ)} {rec : Record} {store : List ℕ} {heard : Bool} {missing : ℕ}
+module _ {F : Family} {limit : ℕ} (G : Sound F limit)
+    {u : SetUp} {v : ℕ} {tail : List ℕ} {ps : List (List ℕ)} {rec : Record} {store : List ℕ} {heard : Bool} {missing : ℕ}
     {came : List Bool} {f : List ℕ} {fs : List (List ℕ)} (w : AllWhole F ps)
     (k : Kept F limit u v tail ps rec store heard missing came (f ∷ fs)) where
   -- the data field of the next frame
@@ -125,7 +126,8 @@ record Coming (F : Family) (limit : ℕ) (u : SetUp) (v : ℕ) (tail : List ℕ)
   good : Good F limit (doneBy F limit x rec store f) tail ps came (carried u f) left
   sends : Sends u v (after count) left fs
 
-module _ {F : Family} {limit : ℕ} (G : Sound F limit) {u : SetUp} {v : ℕ} {tail : List ℕ} {ps : List (List ℕ)} {rec : Record} {store : List ℕ} {heard : Bool} {missing : ℕ}
+module _ {F : Family} {limit : ℕ} (G : Sound F limit)
+    {u : SetUp} {v : ℕ} {tail : List ℕ} {ps : List (List ℕ)} {rec : Record} {store : List ℕ} {heard : Bool} {missing : ℕ}
     {came : List Bool} {f : List ℕ} {fs : List (List ℕ)} (w : AllWhole F ps)
     (k : Kept F limit u v tail ps rec store heard missing came (f ∷ fs)) (few : heard ≡ true → missing ≤ mostMissing) where
   coming : Coming F limit u v tail ps rec store came (k .count) f fs
@@ -200,7 +202,8 @@ module _ {F : Family} {limit : ℕ} (G : Sound F limit) {u : SetUp} {v : ℕ} {t
         }
 
 -- every other call
-module _ {F : Family} {limit : ℕ} (G : Sound F limit) {u : SetUp} {v : ℕ} {tail : List ℕ} {ps : List (List ℕ)} {rec : Record} {store : List ℕ} {heard : Bool} {missing : ℕ}
+module _ {F : Family} {limit : ℕ} (G : Sound F limit)
+    {u : SetUp} {v : ℕ} {tail : List ℕ} {ps : List (List ℕ)} {rec : Record} {store : List ℕ} {heard : Bool} {missing : ℕ}
     {came : List Bool} {fs : List (List ℕ)} (k : Kept F limit u v tail ps rec store heard missing came fs) where
   pub other-keeps : (u′ : SetUp) (out f : List ℕ) → v < 8 → Octets f → Harmless F limit v u′ rec store out f
       → Kept F limit u v tail ps (recordOver F limit u′ rec store out f) (storeOver F limit u′ rec store out f) heard missing came fs

@@ -103,7 +103,8 @@ module _ {tail : List ℕ} {ps : List (List ℕ)} {came : List Bool} {q : List �
       → Losing tail ps (came ++ replicate 0 false) rest
   idle-loses s e r = record { to-come = q; behind = behind; rest-is = r; lost = idle-same false s e }
 
-  pub idle-good : {F : Family} {limit : ℕ} (G : Sound F limit) {rest : List Mark} → AllWhole F ps → Any tail ps came q behind → q ≡ [] → rest ≡ inner q ++ laidOut behind
+  pub idle-good : {F : Family} {limit : ℕ} (G : Sound F limit) {rest : List Mark} → AllWhole F ps → Any tail ps came q behind → q ≡ []
+      → rest ≡ inner q ++ laidOut behind
       → Good F limit (only Hunting) tail ps came 0 rest
   idle-good {F} {limit} G w s e r =
       only-good G q behind

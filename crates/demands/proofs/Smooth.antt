@@ -74,7 +74,8 @@ gathered-whole F limit part field pointer k s = go (agrees (length field) k s po
     go true e = walked (walkOf F limit (take k part ++ field))
     go false e = absurd (omega arith)
 
-skipped-whole : (F : Family) (limit : ℕ) (field : List ℕ) (pointer r : ℕ) → skipped F limit field pointer r .disagreement ≡ 0 → skipped F limit field pointer r .broken ≡ 0
+skipped-whole : (F : Family) (limit : ℕ) (field : List ℕ) (pointer r : ℕ) → skipped F limit field pointer r .disagreement ≡ 0
+    → skipped F limit field pointer r .broken ≡ 0
 unfolding skipped
 skipped-whole F limit field pointer r = go (eqb pointer (calledAt (length field) r)) (leb r (length field))
   where
@@ -120,7 +121,8 @@ module _ {F : Family} {limit : ℕ} {c : Channel} {part tail : List ℕ} {ps : L
       go (stale a b i g o n) = absurd (omega arith)
       go (live a b i g o s) = standing s
 
-module _ {F : Family} {limit : ℕ} (G : Sound F limit) {u : SetUp} {v : ℕ} {tail : List ℕ} {ps : List (List ℕ)} {rec : Record} {store : List ℕ} {heard : Bool} {came : List Bool}
+module _ {F : Family} {limit : ℕ} (G : Sound F limit)
+    {u : SetUp} {v : ℕ} {tail : List ℕ} {ps : List (List ℕ)} {rec : Record} {store : List ℕ} {heard : Bool} {came : List Bool}
     {f : List ℕ} {fs : List (List ℕ)} (w : AllWhole F ps) (k : Kept F limit u v tail ps rec store heard 0 came (f ∷ fs)) (out : List ℕ)
     (room : limit + mostLength ≤ length out) (a : Report) (accepted : answerOver F limit u rec store out f ≡ Accepted a) where
   about : (x : Frame) → Sent u v (k .count) f x → reportOf F x (channelOf x rec) (doneBy F limit x rec store f) ≡ a
@@ -170,7 +172,8 @@ module _ {F : Family} {limit : ℕ} (G : Sound F limit) {u : SetUp} {v : ℕ} {t
                 (nothing-to-come (k .to-come) (laidOut (k .behind)) (rw (k .rest-is) at b)),
           )
 
-pub smooth : {F : Family} {limit : ℕ} (G : Sound F limit) {u : SetUp} {v : ℕ} {tail : List ℕ} {ps : List (List ℕ)} → AllWhole F ps → (fs outs : List (List ℕ)) (rec : Record) (store : List ℕ)
+pub smooth : {F : Family} {limit : ℕ} (G : Sound F limit) {u : SetUp} {v : ℕ} {tail : List ℕ} {ps : List (List ℕ)} → AllWhole F ps
+    → (fs outs : List (List ℕ)) (rec : Record) (store : List ℕ)
     (heard : Bool) (came : List Bool) → Kept F limit u v tail ps rec store heard 0 came fs → Roomy limit outs → Smooth F limit u rec store fs outs
 smooth G w [] outs rec store heard came k r = tt
 smooth G w (f ∷ fs) [] rec store heard came k r = tt

@@ -262,14 +262,16 @@ module _ {tail : List ℕ} {ps : List (List ℕ)} {came : List Bool} {q : List �
   lost-spot (lost-free s) = free-spot s
   lost-spot (lost-inside begun s) = inside-spot s
 
-  pub lost-none : {F : Family} {limit : ℕ} (G : Sound F limit) (D : ℕ) → Lost tail ps came q behind → AllWhole F behind → D < length q → finishes limit tail ps came D ≡ []
+  pub lost-none : {F : Family} {limit : ℕ} (G : Sound F limit) (D : ℕ) → Lost tail ps came q behind → AllWhole F behind → D < length q
+      → finishes limit tail ps came D ≡ []
   lost-none {F} {limit} G D (lost-free s) w h =
       let a : ℕ = length came in
       let c : List Bool = came ++ replicate D true in
       free-skips G D s (a + D) c ∙ late-all F (G .laws) limit a (a + D) c (a + length q) behind w (omega arith)
   lost-none {F} {limit} G D (lost-inside begun s) w h = inside-none G D s w h
 
-  pub lost-full : {F : Family} {limit : ℕ} (G : Sound F limit) (D : ℕ) → Lost tail ps came q behind → (ws r : List (List ℕ)) (m : ℕ) → behind ≡ ws ++ r → AllWhole F ws → AllFit limit ws
+  pub lost-full : {F : Family} {limit : ℕ} (G : Sound F limit) (D : ℕ) → Lost tail ps came q behind → (ws r : List (List ℕ)) (m : ℕ)
+      → behind ≡ ws ++ r → AllWhole F ws → AllFit limit ws
       → D ≡ length q + m → length (endToEnd ws) ≤ m
       → lastIn limit (length came) (length came + D) (came ++ replicate D true) (length came + length q + length (endToEnd ws)) r ≡ []
       → finishes limit tail ps came D ≡ ws

@@ -39,7 +39,7 @@ use Rattle.channel.specs.declared.state.State.{State}
 use Rattle.reader.specs.Answers as readAnswers
 use Rattle.reader.specs.Reading.{Read}
 use Rattle.walk.specs.Steps.{Did, gapFor, stepsOf}
-use Rattle.walk.specs.Walk.{walkOf, handedAll, finished}
+use Rattle.walk.specs.Walk.{Walked, walkOf, handedAll, finished}
 use Rattle.walk.specs.declared.stepping.Course.{Course}
 use Rattle.reader.specs.declared.reading.Answer.{Answer}
 use Rattle.reader.specs.declared.reading.Refusal.{Refusal as ReadRefusal}
@@ -101,7 +101,8 @@ pub record OneAnswer : Type 0 where
   pub output-fits : (n : ℕ) → One (λ (r : Bool). r ≡ outputFits packetSize.most n)
   -- walk: walk, gap_for, steps
   pub walk : (limit : ℕ) (field : List ℕ) (from : ℕ) (out : List ℕ) (t : Tally)
-      → One (λ (r : Ended × List ℕ). (r .0 ≡ finished packetSize.source t (walkOf packetSize.source limit (drop from field))) × (r .1 ≡ laid out (t .filled) (handedAll packetSize.source (walkOf packetSize.source limit (drop from field) .whole))))
+      → let w : Walked = walkOf packetSize.source limit (drop from field) in
+      One (λ (r : Ended × List ℕ). (r .0 ≡ finished packetSize.source t w) × (r .1 ≡ laid out (t .filled) (handedAll packetSize.source (w .whole))))
   pub gap-for : (c : Channel) (h : Header) → One (λ (r : ℕ). r ≡ gapFor c h)
   pub steps : (limit : ℕ) (part field out : List ℕ) (h : Header) (c : Channel)
       → One (λ (r : Course × List ℕ × List ℕ). Did packetSize.source (stepsOf packetSize.source limit part field h c) (r .0) part (r .1) out (r .2))

@@ -11,8 +11,7 @@ use Rattle.frame.specs.declared.set_up.SetUp.{SetUp}
 use Rattle.channel.specs.State.{freshRecord}
 use Rattle.channel.specs.declared.state.Record.{Record}
 use Rattle.reader.specs.Reading.{recordOf, storeOf, outputOf}
-use Rattle.demands.specs.History.{Event, Allowed, carried, brought, wanted, unwanted}
-use Rattle.demands.specs.History.Event.{lost, arrives, other}
+use Rattle.demands.specs.History.{Event, lost, arrives, other, Allowed, carried, brought, wanted, unwanted}
 use Rattle.demands.specs.Sender.{Sends, streamOf}
 
 -- the set-up: frames of 20 octets of the spacecraft 171, without error control

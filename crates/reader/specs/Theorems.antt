@@ -59,8 +59,8 @@ pub record Keeps (F : Family) (limit : ℕ) (u : SetUp) (rec : Record) (store ou
   pub output-length : length (outputOver F limit u rec store out f) ≡ length out
 
 abbrev pub Accepted-keeps : Family → ℕ → Type 0
-Accepted-keeps F limit = Sound F limit → (u : SetUp) (rec : Record) (store out f : List ℕ) (a : Report) → Octets store → Octets f → length (rec .channels) ≡ channels
-    → answerOver F limit u rec store out f ≡ Accepted a → Keeps F limit u rec store out f
+Accepted-keeps F limit = Sound F limit → (u : SetUp) (rec : Record) (store out f : List ℕ) (a : Report) → Octets store → Octets f
+    → length (rec .channels) ≡ channels → answerOver F limit u rec store out f ≡ Accepted a → Keeps F limit u rec store out f
 
 -- only the frame's own channel and its part of the store can change
 pub record Apart (F : Family) (limit : ℕ) (u : SetUp) (rec : Record) (store out f : List ℕ) (w : ℕ) : Type 0 where

@@ -1,4 +1,4 @@
--- A packet under way: its held octets and the field in one run, where it ends, and what it comes to.
+-- A source packet under way: its held octets and the field in one run, where it ends, and what it comes to.
 -- Assumes nothing.
 use mathlib.Core.Path.{_≡_, refl, _∙_, sym, ap}
 use mathlib.Core.Bool.{Bool, true, false}
