@@ -1,4 +1,4 @@
--- `reader::agreeing` meets its contract: the test of each case of the size.
+-- `walk::agreeing` meets its contract: the test of each case of the size.
 -- Assumes nothing.
 use mathlib.Core.Path.{refl}
 use native.Mathlib.Omega.{arith}

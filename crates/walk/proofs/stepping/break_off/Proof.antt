@@ -1,4 +1,4 @@
--- `reader::break_off` meets its contract, field by field.
+-- `walk::break_off` meets its contract, field by field.
 -- Assumes nothing.
 use borrow.Author.Needs.{needs}
 use Rattle.walk.proofs.stepping.break_off.Statement.{statement}

@@ -1,4 +1,4 @@
--- `reader::broken_by` meets its contract: by what makes a state busy.
+-- `walk::broken_by` meets its contract: by what makes a state busy.
 -- Assumes nothing.
 use mathlib.Core.Path.{_∙_, sym}
 use borrow.Author.Needs.{needs}

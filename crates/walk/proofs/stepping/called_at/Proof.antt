@@ -1,4 +1,4 @@
--- `reader::called_at` meets its contract: the end itself below D, else 2047.
+-- `walk::called_at` meets its contract: the end itself below D, else 2047.
 -- Assumes nothing.
 use Rattle.walk.proofs.StepLaws.{called-within, called-none}
 use Rattle.walk.proofs.stepping.called_at.Statement.{statement}

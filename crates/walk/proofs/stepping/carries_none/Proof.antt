@@ -1,4 +1,4 @@
--- `reader::carries_none` meets its contract: the flag, and then the pointer.
+-- `walk::carries_none` meets its contract: the flag, and then the pointer.
 -- Assumes nothing.
 use Rattle.walk.specs.Steps.{carriesNone}
 use Rattle.walk.proofs.stepping.carries_none.Statement.{statement}

@@ -1,4 +1,4 @@
--- `reader::disagreement` meets its contract, field by field.
+-- `walk::disagreement` meets its contract, field by field.
 -- Assumes nothing.
 use borrow.Author.Needs.{needs}
 use Rattle.walk.proofs.stepping.disagreement.Statement.{statement}

@@ -1,4 +1,4 @@
--- `reader::finish` meets its contract: an idle packet is counted, and another stands in the output.
+-- `walk::finish` meets its contract: an idle packet is counted, and another stands in the output.
 -- Assumes nothing.
 use Prim.Native.Nat.{_-_}
 use native.Mathlib.Omega.{arith}

@@ -1,4 +1,4 @@
--- `reader::gap_for` meets its contract: 0 if unheard, else the gap of the two counts.
+-- `walk::gap_for` meets its contract: 0 if unheard, else the gap of the two counts.
 -- Assumes nothing.
 use Rattle.walk.specs.Steps.{gapFor}
 use borrow.Author.Needs.{needs}

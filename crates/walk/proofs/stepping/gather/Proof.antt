@@ -1,4 +1,4 @@
--- `reader::gather` meets its contract, by what the held octets and the field tell.
+-- `walk::gather` meets its contract, by what the held octets and the field tell.
 -- Assumes nothing.
 use mathlib.Core.Path.{_≡_}
 use mathlib.Core.List.{_++_}

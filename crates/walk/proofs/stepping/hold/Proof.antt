@@ -1,4 +1,4 @@
--- `reader::hold` meets its contract: the part of the field that is copied goes to its end.
+-- `walk::hold` meets its contract: the part of the field that is copied goes to its end.
 -- Assumes nothing.
 use Rattle.walk.proofs.CutLaws.{to-the-end}
 use borrow.Author.Needs.{needs}

@@ -1,4 +1,4 @@
--- `reader::hold_more` meets its contract: what is laid behind the held octets is laid at the start with them.
+-- `walk::hold_more` meets its contract: what is laid behind the held octets is laid at the start with them.
 -- Assumes nothing.
 use mathlib.Core.Path.{_∙_}
 use native.Mathlib.Omega.{arith}

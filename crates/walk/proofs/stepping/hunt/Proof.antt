@@ -1,4 +1,4 @@
--- `reader::hunt` meets its contract: it ends at once at 2047, and else walks from the pointer and settles.
+-- `walk::hunt` meets its contract: it ends at once at 2047, and else walks from the pointer and settles.
 -- Assumes nothing.
 use mathlib.Core.Path.{refl}
 use native.Mathlib.Omega.{arith}

@@ -1,4 +1,4 @@
--- `reader::resume` meets its contract, state by state.
+-- `walk::resume` meets its contract, state by state.
 -- Assumes nothing.
 use mathlib.Core.Path.{_≡_}
 use Rattle.channel.specs.declared.state.State.the-variants.{Hunting, Gathering, Skipping}

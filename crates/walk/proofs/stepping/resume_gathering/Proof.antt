@@ -1,4 +1,4 @@
--- `reader::resume_gathering` meets its contract: the packet under way goes on, or disagrees.
+-- `walk::resume_gathering` meets its contract: the packet under way goes on, or disagrees.
 -- Assumes nothing.
 use Rattle.packet.specs.Size.{source}
 use Rattle.walk.proofs.DoneLaws.{did-as, did-disagreed}

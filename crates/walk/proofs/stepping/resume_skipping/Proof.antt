@@ -1,4 +1,4 @@
--- `reader::resume_skipping` meets its contract: a disagreement, a skip that goes on, and one that ends in the field.
+-- `walk::resume_skipping` meets its contract: a disagreement, a skip that goes on, and one that ends in the field.
 -- Assumes nothing.
 use mathlib.Core.Path.{refl, _∙_, sym}
 use native.Mathlib.Omega.{arith}

@@ -1,4 +1,4 @@
--- `reader::settle` meets its contract, end by end.
+-- `walk::settle` meets its contract, end by end.
 -- Assumes nothing.
 use mathlib.Core.Path.{_≡_, sym}
 use Rattle.octets.proofs.Runs.{laid-nil}

@@ -1,4 +1,4 @@
--- `reader::steps` meets its contract: idle and private frames, a gap, and else the state.
+-- `walk::steps` meets its contract: idle and private frames, a gap, and else the state.
 -- Assumes nothing.
 use mathlib.Core.Path.{_∙_}
 use Rattle.packet.specs.Size.{source}

@@ -1,4 +1,4 @@
--- `reader::hand_out` meets its contract.
+-- `walk::hand_out` meets its contract.
 -- Assumes nothing.
 use mathlib.Core.Path.{_∙_, sym}
 use Rattle.packet.specs.Size.{source}

@@ -1,4 +1,4 @@
--- `reader::look` meets its contract: what the size and the tests say of the front.
+-- `walk::look` meets its contract: what the size and the tests say of the front.
 -- Assumes nothing.
 use mathlib.Core.Path.{_∙_, sym}
 use Rattle.packet.specs.Size.{source}

@@ -1,4 +1,4 @@
--- `reader::walk` meets its contract: what the walk gives from the start is what it gives from here, after what is done.
+-- `walk::walk` meets its contract: what the walk gives from the start is what it gives from here, after what is done.
 -- Assumes nothing.
 use mathlib.Core.Path.{_≡_, refl, _∙_, sym}
 use Prim.Native.Nat.{_+_, _-_, _≤_}
