@@ -1,4 +1,5 @@
 pub mod CountLaws
+pub mod OnceLaws
 pub mod SavedLaws
 pub mod Spans
 pub mod Spelling

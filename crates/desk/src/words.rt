@@ -1,6 +1,5 @@
 // A word of the command line as a number.
 ghost use mathlib.Core.Path.{_≡_};
-ghost use Prim.Native.Nat.{_≤_};
 ghost use Rattle.desk.specs.Numbers.{digitOf, numberOf};
 
 // Numbers are at most this.

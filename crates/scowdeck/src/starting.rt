@@ -10,8 +10,6 @@ use crate::words::chosen;
 use desk::Number;
 use desk::spelt;
 use frame::SetUp;
-ghost use Prim.Native.Nat.{_≤_};
-ghost use lib.ListN.{length};
 
 enum Given {
     Whole(SetUp),
@@ -107,6 +105,9 @@ fn with_recording(fd: i32, set: SetUp, path: &[u8]) {
     let n = os::arg(5, &mut out);
     if os::errno() != 0 {
         return blame(b"", b"OUT");
+    }
+    if n == 0 {
+        return complain(b"OUT is empty");
     }
     if OUT_MAX < n {
         return complain(b"OUT is too long");
