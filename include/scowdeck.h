@@ -142,11 +142,13 @@ struct scowdeck_read_answer {
     uint32_t segment_id;
     uint32_t pointer;
     uint32_t control_word;              /* 0 if not flagged */
-    uint32_t gap;                       /* frames of this channel missing before this one, modulo 256 */
+    uint32_t gap;                       /* frames of this channel missing before this one, modulo 256: 255
+                                           if it came twice; 0 if the channel was not heard before */
     uint32_t delivered;                 /* packets put into the output */
-    uint32_t idle;                      /* idle packets that ended here */
+    uint32_t idle;                      /* idle packets of at most 4,096 octets that were finished here */
     uint32_t broken;                    /* 1: a packet under way was given up */
-    uint32_t disagreement;              /* 1: the pointer was not the one that the packet under way called for */
+    uint32_t disagreement;              /* 1: the pointer was not where the packet under way ends, or not 0
+                                           right behind a packet's end */
     uint32_t foreign;                   /* 1: a packet of another version ended the walk */
     uint32_t oversize;                  /* 1: a packet of more than 4,096 octets began to be skipped */
 };

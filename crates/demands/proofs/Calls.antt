@@ -15,7 +15,7 @@ use Rattle.octets.specs.Numbers.{bitsAt}
 use Rattle.packet.specs.Family.{Family, Octets}
 use Rattle.frame.specs.Header.{headerOf}
 use Rattle.frame.specs.Opening.{openOf, frameOf, idleData}
-use Rattle.frame.specs.SetUp.{fitsOf, mostLength}
+use Rattle.frame.specs.SetUp.{mostLength}
 use Rattle.frame.specs.Table.{None}
 use Rattle.frame.specs.declared.opening.Frame.{Frame}
 use Rattle.frame.specs.declared.opening.Opened.{Opened}
@@ -33,7 +33,7 @@ use Rattle.walk.specs.Steps.{Done}
 use Rattle.reader.specs.Theorems.{Keeps}
 use Rattle.walk.specs.Theorems.{Sound}
 use Rattle.reader.proofs.Laws.{accepted-keeps, store-octets, refused-untouched, others-apart}
-use Rattle.reader.proofs.ReadLaws.{at-set-up, at-store, at-none, accepts, refuses}
+use Rattle.reader.proofs.ReadLaws.{at-none, accepts}
 use Rattle.demands.specs.History.{Harmless, carried}
 
 -- the kept record and store pass tests 2 and 4
@@ -153,12 +153,3 @@ others-keep {F} {limit} G v u rec store out f h fine real (inr (a, (e, n))) =
       channel = t .channel-kept;
       part = t .part-kept;
     }
-
--- a call with a store that test 2 refuses leaves the record
-pub other-store : (F : Family) (limit : ℕ) (u : SetUp) (rec : Record) (store out f : List ℕ) → storeFits limit (length store) ≡ false
-    → recordOver F limit u rec store out f ≡ rec
-other-store F limit u rec store out f e = go (fitsOf u) refl
-  where
-    go : (b : Bool) → fitsOf u ≡ b → recordOver F limit u rec store out f ≡ rec
-    go false a = sym (refuses F limit u rec store out f _ _ (at-set-up F limit u rec store out f a) refl .record-left)
-    go true a = sym (refuses F limit u rec store out f _ _ (at-store F limit u rec store out f a e) refl .record-left)

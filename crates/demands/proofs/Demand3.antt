@@ -20,9 +20,10 @@ use Rattle.reader.specs.Reading.{recordOver, storeOver}
 use Rattle.demands.specs.Demand3.{Demand3Over, Demand3-general, Demand3, Demand3-freshOver, Demand3-fresh}
 use Rattle.demands.specs.History.{Event, Allowed, Delivers, carried}
 use Rattle.demands.specs.History.Event.{lost, arrives, other}
+use Rattle.demands.specs.History.Lent.{both, with-store, with-record}
 use Rattle.demands.specs.Sender.{streamOf}
 use Rattle.demands.proofs.Hears.Reads.{unheard}
-use Rattle.demands.proofs.History.{Kept, after-lost, arrival-calls, arrival-keeps, other-keeps, refused-keeps}
+use Rattle.demands.proofs.History.{Kept, after-lost, arrival-calls, arrival-keeps, other-keeps, record-keeps, store-keeps}
 use Rattle.demands.proofs.Spot.Lost.{lost-free}
 
 module _ {F : Family} {limit : ℕ} (G : Sound F limit) (u : SetUp) (v : ℕ) (tail : List ℕ) (ps : List (List ℕ)) (w : AllWhole F ps) (h : v < 8) where
@@ -39,11 +40,13 @@ module _ {F : Family} {limit : ℕ} (G : Sound F limit) (u : SetUp) (v : ℕ) (t
     along es fs (recordOver F limit u rec store out f) (storeOver F limit u rec store out f) true 0 (came ++ replicate (carried u f) true)
         (arrival-keeps G w k (a .1) out (a .0)) (a .2),
   )
-  along (other u′ true s out f ∷ es) fs rec store heard missing came k a =
+  along (other u′ both out f ∷ es) fs rec store heard missing came k a =
       along es fs (recordOver F limit u′ rec store out f) (storeOver F limit u′ rec store out f) heard missing came
       (other-keeps G k u′ out f h (a .0) (a .1)) (a .2)
-  along (other u′ false s out f ∷ es) fs rec store heard missing came k a =
-      along es fs (recordOver F limit u′ rec s out f) store heard missing came (refused-keeps G k u′ s out f (a .0)) (a .1)
+  along (other u′ (with-store s) out f ∷ es) fs rec store heard missing came k a =
+      along es fs (recordOver F limit u′ rec s out f) store heard missing came (record-keeps G k u′ s out f (a .0)) (a .1)
+  along (other u′ (with-record r) out f ∷ es) fs rec store heard missing came k a =
+      along es fs rec (storeOver F limit u′ r store out f) heard missing came (store-keeps G k u′ r out f (a .0)) (a .1)
 
 -- for every family that keeps the laws of one, and every limit that is wide enough
 pub demand3-general : Demand3-general

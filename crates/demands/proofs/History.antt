@@ -18,18 +18,19 @@ use Rattle.frame.specs.declared.opening.Frame.{Frame}
 use Rattle.frame.specs.declared.set_up.SetUp.{SetUp}
 use Rattle.frame.proofs.Laws.{opened-sound}
 use Rattle.channel.specs.State.{freshChannel}
-use Rattle.channel.specs.Store.{storeFits, partOf}
+use Rattle.channel.specs.Store.{partOf}
 use Rattle.channel.specs.declared.state.Channel.{Channel}
 use Rattle.channel.specs.declared.state.Record.{Record}
 use Rattle.channel.proofs.Laws.{each-follows}
 use Rattle.reader.specs.Reading.{fieldOf, channelOf, doneBy, reportOf, recordOver, storeOver, outputAfter}
 use Rattle.walk.specs.Steps.{Done, courseOf, stepsOf, calledAt}
 use Rattle.walk.specs.Walk.{noTally}
-use Rattle.demands.specs.History.{Harmless, Call, brought, carried, mostMissing, wanted, unwanted}
+use Rattle.reader.proofs.Laws.{refused-untouched}
+use Rattle.demands.specs.History.{Harmless, Refuses, Call, brought, carried, mostMissing, wanted, unwanted}
 use Rattle.demands.specs.History.Event.{lost}
 use Rattle.demands.specs.Sender.{Mark, Sent, Sends, octetsIn, firstStart, between, inner, laidOut}
 use Rattle.demands.specs.Sender.Sends.{packets, idle}
-use Rattle.demands.proofs.Calls.{Fine, starts-with, count-lt, read, fine-after, own-after, part-after, carried-none, carried-all, others-keep, other-store}
+use Rattle.demands.proofs.Calls.{Fine, starts-with, count-lt, read, fine-after, own-after, part-after, carried-none, carried-all, others-keep}
 use Rattle.demands.proofs.Due.{handed-wanted, tally-wanted, tally-unwanted}
 use Rattle.demands.proofs.Field.{Next, next-of}
 use Rattle.demands.proofs.Frame.{Good}
@@ -220,6 +221,11 @@ module _ {F : Family} {limit : ℕ} (G : Sound F limit)
         reads = rw (s .channel, s .part) (k .reads);
       }
 
-  pub refused-keeps : (u′ : SetUp) (s out f : List ℕ) → storeFits limit (length s) ≡ false
+  -- a refused call that is lent the record alone, and one that is lent the store alone
+  pub record-keeps : (u′ : SetUp) (s out f : List ℕ) → Refuses F limit u′ rec s out f
       → Kept F limit u v tail ps (recordOver F limit u′ rec s out f) store heard missing came fs
-  refused-keeps u′ s out f e = rw (other-store F limit u′ rec s out f e) k
+  record-keeps u′ s out f r = rw (refused-untouched F limit u′ rec s out f (r .0) (r .1) .same-record) k
+
+  pub store-keeps : (u′ : SetUp) (rec′ : Record) (out f : List ℕ) → Refuses F limit u′ rec′ store out f
+      → Kept F limit u v tail ps rec (storeOver F limit u′ rec′ store out f) heard missing came fs
+  store-keeps u′ rec′ out f r = rw (refused-untouched F limit u′ rec′ store out f (r .0) (r .1) .same-store) k

@@ -29,8 +29,8 @@ use Rattle.channel.proofs.Laws.{fresh-follows}
 use Rattle.channel.proofs.RuleLaws.{both}
 use Rattle.reader.specs.Reading.{answerOver, recordOf, storeOf, readTableOver, reportOf, channelOf, doneBy}
 use Rattle.reader.specs.declared.reading.Answer.the-variants.{Accepted}
-use Rattle.reader.specs.declared.reading.Refusal.the-variants.{OfFrame, OutputLength}
-use Rattle.demands.specs.History.{Harmless, Allowed, Delivers, lastIn, allArrived, wanted, unwanted}
+use Rattle.reader.specs.declared.reading.Refusal.the-variants.{OfFrame, OutputLength, StoreLength}
+use Rattle.demands.specs.History.{Harmless, Refuses, Allowed, Delivers, lastIn, allArrived, wanted, unwanted}
 use Rattle.demands.specs.Sender.{Mark, Sent, Sends, streamOf, inner, marksOf, laidOut, octetsIn, firstStart, between}
 use Rattle.demands.specs.Sender.Sends.{no-more, packets, idle}
 use Rattle.demands.specs.Witness.{ours, theirs, earlier, first, second, fourth, fifth, sixth, laidPackets, frame1, frame2, frame3, frame4, frame5, frame6, frame7, frames, elsewhere, history, broughtIn, outputsOf, dueTable, idleTable, Witness, Demand3-met}
@@ -100,6 +100,11 @@ module _ (rec : Record) (store out : List ℕ) (k : Fine source most rec store) 
   unfolding answerOver readTableOver openTable firstCause row1 row5 row6 row7 row8 fitsOf headerOf bitsAt numberAt storeFits outputFits
   theirs-harmless r = inl (OfFrame OtherSpacecraft, rw (k .store-whole, le-leb 6144 (length out) r, k .follows))
 
+-- refused by test 2
+other-store : (rec : Record) (store out : List ℕ) → (length store ≡ 32768 → ⊥) → Refuses source most ours rec store out frame6
+unfolding answerOver readTableOver firstCause row1 fitsOf storeFits
+other-store rec store out h = (StoreLength, rw (ne-eqb (length store) 32768 h))
+
 is-due : (out : ℕ → List ℕ) (short store′ : List ℕ) → map (wanted source) (broughtIn ours earlier laidPackets [] frames (history out short store′)) ≡ dueTable
 unfolding broughtIn frameOf headerOf secondarySize dataSize wordOf bitsAt numberAt lastIn allArrived wanted idleOf
 is-due out short store′ = refl
@@ -137,7 +142,7 @@ module _ (store : List ℕ) (out : ℕ → List ℕ) (short store′ : List ℕ)
               (
                 room 5,
                 λ z. omega arith,
-                (real6, s, (real6, t, (ne-eqb (length store′) 32768 not-whole, (room 8, λ z. omega arith, (room 9, λ z. omega arith, tt))))),
+                (real6, s, (real6, t, (other-store _ store′ (out 7) not-whole, (room 8, λ z. omega arith, (room 9, λ z. omega arith, tt))))),
               ),
             ),
           ),

@@ -9,7 +9,7 @@ use lib.ListN.{length, take, drop}
 use Rattle.octets.specs.Pick.{pick}
 use Rattle.packet.specs.Chain.{frontOf}
 use Rattle.packet.specs.Family.{Family, Octets, AllWhole}
-use Rattle.packet.specs.Size.{most, source}
+use Rattle.packet.specs.Size.{least, most, source}
 use Rattle.packet.specs.Theorems.{endToEnd}
 use Rattle.frame.specs.Closing.{channels, closeSize}
 use Rattle.frame.specs.SetUp.{fitsOf, mostLength}
@@ -57,7 +57,7 @@ Fair u (c ∷ cs) = (length (c .out) ≡ u .length) × (wordNumber (c .word) < 2
 
 -- the filler packets that the calls begin: of exactly the room if that is 7 or more, else of 7 octets
 unfoldable pub fillerFor : ℕ → ℕ → List (List ℕ)
-fillerFor placed room = pick (eqb placed 0) [] (pick (eqb room 0) [] (pick (leb 7 room) (idlePacket room ∷ []) (shortIdle ∷ [])))
+fillerFor placed room = pick (eqb placed 0) [] (pick (eqb room 0) [] (pick (leb least room) (idlePacket room ∷ []) (shortIdle ∷ [])))
 
 unfoldable pub fillers : SetUp → ℕ → List ℕ → Place → List Writing → List (List ℕ)
 fillers u v run p [] = []
@@ -110,7 +110,7 @@ pub record ReadsBack (limit : ℕ) (u : SetUp) (v : ℕ) (ps : List (List ℕ)) 
   -- after at most left-over plus run-length calls the offset is at the run's end
   pub gets-there : p .«left_over» + length (endToEnd ps) ≤ length cs → placeAfter u v (endToEnd ps) p cs .offset ≡ length (endToEnd ps)
   -- call by call exactly the packets come out that are due, fillers counting as idle: nothing is lost, and the left-over is a tail
-  pub read-back : Delivers source limit u (drop (7 - p .«left_over») shortIdle) (ps ++ fillers u v (endToEnd ps) p cs) freshRecord store []
+  pub read-back : Delivers source limit u (drop (least - p .«left_over») shortIdle) (ps ++ fillers u v (endToEnd ps) p cs) freshRecord store []
       (frames u v (endToEnd ps) p cs) (map arrives outs)
   pub smooth : Smooth source limit u freshRecord store (frames u v (endToEnd ps) p cs) outs
   -- so at the run's end: exactly all packets of the run that are not idle and have at most `limit` octets were handed out, in order

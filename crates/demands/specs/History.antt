@@ -14,28 +14,37 @@ use Rattle.packet.specs.Theorems.{endToEnd}
 use Rattle.frame.specs.Opening.{frameOf, idleData}
 use Rattle.frame.specs.SetUp.{mostLength}
 use Rattle.frame.specs.declared.set_up.SetUp.{SetUp}
-use Rattle.channel.specs.Store.{storeFits}
 use Rattle.channel.specs.declared.state.Record.{Record}
 use Rattle.reader.specs.Reading.{answerOver, recordOver, storeOver, outputOver}
 use Rattle.reader.specs.declared.reading.Answer.the-variants.{Refused, Accepted}
 use Rattle.reader.specs.declared.reading.Refusal.{Refusal}
 use Rattle.reader.specs.declared.reading.Report.{Report}
 
--- what may happen: the sender's next frame is lost; it is handed over, with this output; another call is made, with the kept store (true)
--- or with another one (false)
+-- what another call is lent: the kept record and the kept store, the kept record with this other store, or the kept store with this other
+-- record; a call that is lent neither leaves both as they are
+pub data Lent : Type 0 where
+  both : Lent
+  with-store : List ℕ → Lent
+  with-record : Record → Lent
+
+-- what may happen: the sender's next frame is lost; it is handed over, with this output; another call is made
 pub data Event : Type 0 where
   lost : Event
   arrives : List ℕ → Event
-  other : SetUp → Bool → List ℕ → List ℕ → List ℕ → Event
+  other : SetUp → Lent → List ℕ → List ℕ → Event
 
 -- "never more than 255 in a row of that channel between two arrivals"
 abbrev pub mostMissing : ℕ
 mostMissing = 255
 
--- a call that is refused, or accepted on another channel than v; a refused one may carry the sender's own frame
+-- a call that is refused, by whatever number; it may carry the sender's own frame
+abbrev pub Refuses : Family → ℕ → SetUp → Record → List ℕ → List ℕ → List ℕ → Type 0
+Refuses F limit u rec store out f = (r : Refusal) × (answerOver F limit u rec store out f ≡ Refused r)
+
+-- a call that is refused, or accepted on another channel than v
 abbrev pub Harmless : Family → ℕ → ℕ → SetUp → Record → List ℕ → List ℕ → List ℕ → Type 0
 Harmless F limit v u rec store out f =
-    ((r : Refusal) × (answerOver F limit u rec store out f ≡ Refused r))
+    Refuses F limit u rec store out f
     ⊎ ((a : Report) × ((answerOver F limit u rec store out f ≡ Accepted a) × (a .header .channel ≡ v → ⊥)))
 
 -- the history keeps to the demand's conditions. `heard`: a frame of the sender arrived already; `missing`: how many were lost since;
@@ -48,11 +57,13 @@ Allowed F limit u v rec store heard missing [] (arrives out ∷ es) = ⊥
 Allowed F limit u v rec store heard missing (f ∷ fs) (arrives out ∷ es) =
     (limit + mostLength ≤ length out) × (heard ≡ true → missing ≤ mostMissing)
     × Allowed F limit u v (recordOver F limit u rec store out f) (storeOver F limit u rec store out f) true 0 fs es
-Allowed F limit u v rec store heard missing fs (other u′ true s out f ∷ es) =
+Allowed F limit u v rec store heard missing fs (other u′ both out f ∷ es) =
     Octets f × Harmless F limit v u′ rec store out f
     × Allowed F limit u v (recordOver F limit u′ rec store out f) (storeOver F limit u′ rec store out f) heard missing fs es
-Allowed F limit u v rec store heard missing fs (other u′ false s out f ∷ es) =
-    (storeFits limit (length s) ≡ false) × Allowed F limit u v (recordOver F limit u′ rec s out f) store heard missing fs es
+Allowed F limit u v rec store heard missing fs (other u′ (with-store s) out f ∷ es) =
+    Refuses F limit u′ rec s out f × Allowed F limit u v (recordOver F limit u′ rec s out f) store heard missing fs es
+Allowed F limit u v rec store heard missing fs (other u′ (with-record r) out f ∷ es) =
+    Refuses F limit u′ r store out f × Allowed F limit u v rec (storeOver F limit u′ r store out f) heard missing fs es
 
 -- how many octets of the sender's stream a frame carries
 abbrev pub carried : SetUp → List ℕ → ℕ
@@ -106,7 +117,9 @@ Delivers F limit u tail ps rec store came (f ∷ fs) (arrives out ∷ es) =
     Call F limit u rec store out f (wanted F (brought limit u tail ps came f)) (unwanted F (brought limit u tail ps came f))
     × Delivers F limit u tail ps (recordOver F limit u rec store out f) (storeOver F limit u rec store out f)
     (came ++ replicate (carried u f) true) fs es
-Delivers F limit u tail ps rec store came fs (other u′ true s out f ∷ es) =
+Delivers F limit u tail ps rec store came fs (other u′ both out f ∷ es) =
     Delivers F limit u tail ps (recordOver F limit u′ rec store out f) (storeOver F limit u′ rec store out f) came fs es
-Delivers F limit u tail ps rec store came fs (other u′ false s out f ∷ es) =
+Delivers F limit u tail ps rec store came fs (other u′ (with-store s) out f ∷ es) =
     Delivers F limit u tail ps (recordOver F limit u′ rec s out f) store came fs es
+Delivers F limit u tail ps rec store came fs (other u′ (with-record r) out f ∷ es) =
+    Delivers F limit u tail ps rec (storeOver F limit u′ r store out f) came fs es

@@ -11,7 +11,7 @@ use Rattle.frame.specs.declared.set_up.SetUp.{SetUp}
 use Rattle.channel.specs.State.{freshRecord}
 use Rattle.channel.specs.declared.state.Record.{Record}
 use Rattle.reader.specs.Reading.{recordOf, storeOf, outputOf}
-use Rattle.demands.specs.History.{Event, lost, arrives, other, Allowed, carried, brought, wanted, unwanted}
+use Rattle.demands.specs.History.{Event, lost, arrives, other, both, with-store, with-record, Allowed, carried, brought, wanted, unwanted}
 use Rattle.demands.specs.Sender.{Sends, streamOf}
 
 -- the set-up: frames of 20 octets of the spacecraft 171, without error control
@@ -98,9 +98,8 @@ elsewhere = 0x0A ∷ 0xBA ∷ 0x41 ∷ 0x4D ∷ 0x18 ∷ 0x00 ∷ 0x01 ∷ 0x26 
 -- handed over with too short an output, under another spacecraft number and with another store, and refused, and then arrives
 abbrev pub history : (ℕ → List ℕ) → List ℕ → List ℕ → List Event
 history out short store′ =
-    arrives (out 1) ∷ other ours true [] (out 2) elsewhere ∷ arrives (out 3) ∷ arrives (out 4) ∷ arrives (out 5) ∷ lost
-    ∷ other ours true [] short frame6 ∷ other theirs true [] (out 6) frame6 ∷ other ours false store′ (out 7) frame6
-    ∷ arrives (out 8) ∷ arrives (out 9) ∷ []
+    arrives (out 1) ∷ other ours both (out 2) elsewhere ∷ arrives (out 3) ∷ arrives (out 4) ∷ arrives (out 5) ∷ lost
+    ∷ other ours both short frame6 ∷ other theirs both (out 6) frame6 ∷ other ours (with-store store′) (out 7) frame6 ∷ arrives (out 8) ∷ arrives (out 9) ∷ []
 
 -- of each arrival, the packets whose last octet it brings; `came` says of each octet sent so far whether it arrived
 unfoldable pub broughtIn : SetUp → List ℕ → List (List ℕ) → List Bool → List (List ℕ) → List Event → List (List (List ℕ))
@@ -109,7 +108,7 @@ broughtIn u tail ps came [] (e ∷ es) = []
 broughtIn u tail ps came (f ∷ fs) (lost ∷ es) = broughtIn u tail ps (came ++ replicate (carried u f) false) fs es
 broughtIn u tail ps came (f ∷ fs) (arrives out ∷ es) =
     brought most u tail ps came f ∷ broughtIn u tail ps (came ++ replicate (carried u f) true) fs es
-broughtIn u tail ps came (f ∷ fs) (other u′ kept s out g ∷ es) = broughtIn u tail ps came (f ∷ fs) es
+broughtIn u tail ps came (f ∷ fs) (other u′ lent out g ∷ es) = broughtIn u tail ps came (f ∷ fs) es
 
 -- the output that each arrival leaves, with record and store kept between calls
 abbrev pub outputsOf : SetUp → Record → List ℕ → List (List ℕ) → List Event → List (List ℕ)
@@ -118,9 +117,10 @@ outputsOf u rec store [] (e ∷ es) = []
 outputsOf u rec store (f ∷ fs) (lost ∷ es) = outputsOf u rec store fs es
 outputsOf u rec store (f ∷ fs) (arrives out ∷ es) =
     outputOf u rec store out f ∷ outputsOf u (recordOf u rec store out f) (storeOf u rec store out f) fs es
-outputsOf u rec store (f ∷ fs) (other u′ true s out g ∷ es) =
+outputsOf u rec store (f ∷ fs) (other u′ both out g ∷ es) =
     outputsOf u (recordOf u′ rec store out g) (storeOf u′ rec store out g) (f ∷ fs) es
-outputsOf u rec store (f ∷ fs) (other u′ false s out g ∷ es) = outputsOf u (recordOf u′ rec s out g) store (f ∷ fs) es
+outputsOf u rec store (f ∷ fs) (other u′ (with-store s) out g ∷ es) = outputsOf u (recordOf u′ rec s out g) store (f ∷ fs) es
+outputsOf u rec store (f ∷ fs) (other u′ (with-record r) out g ∷ es) = outputsOf u rec (storeOf u′ r store out g) (f ∷ fs) es
 
 -- what is due in each of the six arrivals
 abbrev pub dueTable : List (List (List ℕ))
