@@ -1,11 +1,9 @@
 -- A channel's record (01): "heard or not; last channel count; and one of hunting, gathering k octets, or skipping r octets".
 use mathlib.Core.Bool.{false}
-use Prim.Native.Nat.{ℕ}
 use lib.ListN.{replicate}
 use Rattle.frame.specs.Closing.{channels}
 use Rattle.channel.specs.declared.state.Channel.{Channel}
 use Rattle.channel.specs.declared.state.Record.{Record}
-use Rattle.channel.specs.declared.state.State.{State}
 use Rattle.channel.specs.declared.state.State.the-variants.{Hunting}
 
 -- "Fresh: all unheard, last count 0."

@@ -20,6 +20,11 @@ pub digits-from : (bs : List ℕ) → ((i : ℕ) → getD bs i 0 < 2) → Digits
 digits-from [] f = tt
 digits-from (b ∷ bs) f = (f 0, digits-from bs (λ i. f (suc i)))
 
+pub digits-at : (bs : List ℕ) → Digits bs → (i : ℕ) → getD bs i 0 < 2
+digits-at [] d i = omega arith
+digits-at (b ∷ bs) d zero = d .0
+digits-at (b ∷ bs) d (suc i) = digits-at bs (d .1) i
+
 pub digits-append : (a b : List ℕ) → Digits a → Digits b → Digits (a ++ b)
 digits-append [] b p q = q
 digits-append (x ∷ a) b p q = (p .0, digits-append a b (p .1) q)

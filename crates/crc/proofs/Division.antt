@@ -96,10 +96,11 @@ one-digit a p q t d h e =
 
 pub remainder : (n : ℕ) (p : List ℕ) → length p ≡ n + 16 → Digits p
     → (q : List ℕ) × (length q ≡ n) × (p ≡ plus (product q G) (replicate n 0 ++ modulo n p)) × (length (modulo n p) ≡ 16)
+    × Digits (modulo n p)
 unfolding plus product modulo scale tail
-remainder zero p l d = ([], refl, refl, l)
+remainder zero p l d = ([], refl, refl, l, d)
 remainder (suc n) [] l d = absurd (omega arith)
 remainder (suc n) (a ∷ p) l d =
     let h : 16 ≤ length p = omega arith in
     let m = remainder n (plus p (tail a)) (length-plus p (tail a) h ∙ omega arith) (digits-plus p (tail a) (d .1) (digits-scale a (drop 1 G))) in
-    (a ∷ m .0, ap suc (m .1), one-digit a p (m .0) _ d h (m .2), m .3)
+    (a ∷ m .0, ap suc (m .1), one-digit a p (m .0) _ d h (m .2), m .3, m .4)

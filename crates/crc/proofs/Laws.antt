@@ -7,10 +7,10 @@ use native.Mathlib.Omega.{arith}
 use lib.Bits.{bitXor, xor-self, xor-lt}
 use lib.ListN.{length, replicate}
 use Rattle.crc.specs.Register.{over, bits, bitsOf, preset, syndromeOf}
-use Rattle.crc.specs.Book.{number}
+use Rattle.crc.specs.Book.{modulo, number}
 use Rattle.crc.specs.Theorems.{Is-book, Is-remainder, Own-field, Empty-field, In-16-bits}
 use Rattle.crc.proofs.Xor.{eq-of-xor}
-use Rattle.crc.proofs.Digits.{digits-from, digits-bitsOf, number-append, number-bits, length-bits}
+use Rattle.crc.proofs.Digits.{digits-from, digits-at, digits-bitsOf, number-append, number-bits, length-bits}
 use Rattle.crc.proofs.Linear.{turns, turns-zero, turns-of-zero, over-lt, over-top, syndrome-more}
 use Rattle.crc.proofs.Division.{division, remainder}
 
@@ -19,7 +19,9 @@ unfolding syndromeOf number
 is-book m = sym (division (bitsOf m) (replicate 16 1) (digits-bitsOf m) (omega arith) refl)
 
 pub is-remainder : Is-remainder
-is-remainder n p l f = remainder n p l (digits-from p f)
+is-remainder n p l f =
+    let r = remainder n p l (digits-from p f) in
+    (r .0, r .1, r .2, r .3, digits-at (modulo n p) (r .4))
 
 pub empty-field : Empty-field
 unfolding syndromeOf bitsOf over

@@ -23,8 +23,10 @@ Empty-field = syndromeOf [] ≡ 0xFFFF
 abbrev pub In-16-bits : Type 0
 In-16-bits = (m : List ℕ) → syndromeOf m < 2 ^ 16
 
--- what the division leaves is a remainder: a multiple of G(X) and it are the dividend, and it has 16 coefficients, below G's leading one
+-- what the division leaves is a remainder: a multiple of G(X) and it are the dividend, and it has 16 coefficients, below G's leading one,
+-- each 0 or 1
 abbrev pub Is-remainder : Type 0
 Is-remainder =
     (n : ℕ) (p : List ℕ) → length p ≡ n + 16 → ((i : ℕ) → getD p i 0 < 2)
     → (q : List ℕ) × (length q ≡ n) × (p ≡ plus (product q G) (replicate n 0 ++ modulo n p)) × (length (modulo n p) ≡ 16)
+    × ((i : ℕ) → getD (modulo n p) i 0 < 2)

@@ -1,219 +1,203 @@
--- What is due in all calls together, where every frame arrives: each packet that ends within the octets sent, once and in order.
+-- What is due in all calls together: each packet that lies within the octets sent and all of whose octets arrived, once and in order.
 -- Assumes nothing.
-use mathlib.Core.Path.{_≡_, refl, _∙_, sym, ap, ap₂}
+use mathlib.Core.Path.{_≡_, refl, _∙_, sym, ap}
 use mathlib.Core.Bool.{Bool, true, false, _&&_}
-use mathlib.Core.List.{List, [], _∷_, _++_}
-use Prim.Native.Nat.{ℕ, _+_, _-_, _≤_, _<_}
+use mathlib.Core.List.{List, [], _∷_, _++_, append-assoc, append-nil}
+use Prim.Native.Nat.{ℕ, zero, suc, _+_, _-_, _≤_, _<_}
 use native.Mathlib.Decide.{decLt}
-use native.Mathlib.Nat.{zero-add, add-assoc}
 use native.Mathlib.Omega.{arith}
-use lib.Dec.{ltb, leb}
-use lib.ListN.{length, take, drop, replicate, length-append, length-replicate, replicate-append-replicate}
-use lib.Seq.{drop-at}
-use borrow.Author.Tests.{lt-ltb, le-ltb, le-leb, lt-leb, leb-true}
+use lib.Dec.{leb}
+use lib.ListN.{length, getD, take, drop, replicate, length-append, length-drop, length-replicate, getD-replicate}
+use lib.Seq.{drop-append-le, take-append-le, getD-drop, getD-append-add}
+use borrow.Author.Tests.{lt-ltb, le-leb}
 use Rattle.octets.specs.Pick.{pick}
-use Rattle.packet.specs.Family.{Family, AllWhole}
-use Rattle.packet.specs.Size.{source, idleOf}
-use Rattle.packet.specs.Theorems.{endToEnd}
-use Rattle.packet.proofs.Laws.{source-lawful}
+use Rattle.packet.specs.Family.{Family, Lawful, AllWhole}
 use Rattle.frame.specs.declared.set_up.SetUp.{SetUp}
-use Rattle.demands.specs.Demand2.{fitting}
-use Rattle.demands.specs.History.{allArrived, brought, carried, lastIn, wanted}
-use Rattle.demands.proofs.Due.{all-came, take-same}
-use Rattle.demands.proofs.Fillers.{AllIdle}
+use Rattle.demands.specs.History.{Event, allArrived, arrivedWhole, cameAfter, carried, lastIn, wanted}
+use Rattle.demands.specs.History.Event.{lost, arrives, other}
+use Rattle.demands.proofs.Due.{early, late, gone, late-all}
 use Rattle.demands.proofs.Stream.{whole-some}
 
--- what is due in all the calls, one after the other, where every frame arrives
-unfoldable pub dueInAll : Family → ℕ → SetUp → List ℕ → List (List ℕ) → List Bool → List (List ℕ) → List (List ℕ)
-dueInAll F limit u tail ps came [] = []
-dueInAll F limit u tail ps came (f ∷ fs) =
-    wanted F (brought limit u tail ps came f) ++ dueInAll F limit u tail ps (came ++ replicate (carried u f) true) fs
+-- a packet at place s fits, and all of it came
+abbrev fitsAndCame : ℕ → List Bool → ℕ → List ℕ → Bool
+fitsAndCame limit came s p = leb (length p) limit && allArrived (take (length p) (drop s came))
 
--- of packets from place s on, those of at most `limit` octets that end behind place a and not behind place b
-ending : ℕ → ℕ → ℕ → ℕ → List (List ℕ) → List (List ℕ)
-ending limit a b s [] = []
-ending limit a b s (p ∷ ps) =
-    pick ((ltb a (s + length p) && leb (s + length p) b) && leb (length p) limit) (p ∷ ending limit a b (s + length p) ps)
-    (ending limit a b (s + length p) ps)
-
--- one packet
-and-no : (x : Bool) → (x && false) ≡ false
-and-no true = refl
-and-no false = refl
-
-and-yes : (x : Bool) → (x && true) ≡ x
-and-yes true = refl
-and-yes false = refl
-
-module _ (limit a b s : ℕ) (p : List ℕ) (ps : List (List ℕ)) where
-  ends-early : s + length p ≤ a → ending limit a b s (p ∷ ps) ≡ ending limit a b (s + length p) ps
-  unfolding ending
-  ends-early h = rw (le-ltb a (s + length p) h)
-
-  ends-late : b < s + length p → ending limit a b s (p ∷ ps) ≡ ending limit a b (s + length p) ps
-  unfolding ending
-  ends-late h = rw (lt-leb (s + length p) b h, and-no (ltb a (s + length p)))
-
+-- so a packet that ends behind place a and not behind place b is due
+module _ (limit a b : ℕ) (came : List Bool) (s : ℕ) (p : List ℕ) (ps : List (List ℕ)) where
   ends-in : a < s + length p → s + length p ≤ b
-      → ending limit a b s (p ∷ ps) ≡ pick (leb (length p) limit) (p ∷ ending limit a b (s + length p) ps) (ending limit a b (s + length p) ps)
-  unfolding ending
+      → lastIn limit a b came s (p ∷ ps)
+      ≡ pick (fitsAndCame limit came s p) (p ∷ lastIn limit a b came (s + length p) ps) (lastIn limit a b came (s + length p) ps)
+  unfolding lastIn
   ends-in h i = rw (lt-ltb a (s + length p) h, le-leb (s + length p) b i)
 
 -- none ends
-none-ends : (limit a b s : ℕ) (ps : List (List ℕ)) → b ≤ a → ending limit a b s ps ≡ []
-unfolding ending
-none-ends limit a b s [] h = refl
-none-ends limit a b s (p ∷ ps) h = go (decLt b (s + length p)) (none-ends limit a b (s + length p) ps h)
+none-ends : (limit a b : ℕ) (came : List Bool) (s : ℕ) (ps : List (List ℕ)) → b ≤ a → lastIn limit a b came s ps ≡ []
+unfolding lastIn
+none-ends limit a b came s [] h = refl
+none-ends limit a b came s (p ∷ ps) h = go (decLt b (s + length p)) (none-ends limit a b came (s + length p) ps h)
   where
-    go : Dec (b < s + length p) → ending limit a b (s + length p) ps ≡ [] → ending limit a b s (p ∷ ps) ≡ []
-    go (yes i) on = ends-late limit a b s p ps i ∙ on
-    go (no i) on = ends-early limit a b s p ps (omega arith) ∙ on
-
-behind-ends : (limit a b s : ℕ) (ps : List (List ℕ)) → AllWhole source ps → b ≤ s → ending limit a b s ps ≡ []
-unfolding ending
-behind-ends limit a b s [] w h = refl
-behind-ends limit a b s (p ∷ ps) w h =
-    ends-late limit a b s p ps (omega (arith, whole-some source source-lawful p (w .0))) ∙ behind-ends limit a b (s + length p) ps (w .1) (omega arith)
+    go : Dec (b < s + length p) → lastIn limit a b came (s + length p) ps ≡ [] → lastIn limit a b came s (p ∷ ps) ≡ []
+    go (yes i) on = late limit a b came s p ps i ∙ on
+    go (no i) on = early limit a b came s p ps (omega arith) ∙ on
 
 -- two stretches one behind the other
-module _ (limit a b c : ℕ) (h : a ≤ b) (i : b ≤ c) where
-  pick-front : (t : Bool) (p : List ℕ) (x y z : List (List ℕ)) → x ++ y ≡ z → pick t (p ∷ x) x ++ y ≡ pick t (p ∷ z) z
-  pick-front true p x y z e = ap (λ (l : List (List ℕ)). p ∷ l) e
-  pick-front false p x y z e = e
+pick-front : (t : Bool) (p : List ℕ) (x y z : List (List ℕ)) → x ++ y ≡ z → pick t (p ∷ x) x ++ y ≡ pick t (p ∷ z) z
+pick-front true p x y z e = ap (λ (l : List (List ℕ)). p ∷ l) e
+pick-front false p x y z e = e
 
-  pick-behind : (t : Bool) (p : List ℕ) (x y z : List (List ℕ)) → x ≡ [] → x ++ y ≡ z → x ++ pick t (p ∷ y) y ≡ pick t (p ∷ z) z
-  pick-behind t p x y z n e = rw n (go t (rw n at e))
-    where
-      go : (t : Bool) → y ≡ z → pick t (p ∷ y) y ≡ pick t (p ∷ z) z
-      go true e = ap (λ (l : List (List ℕ)). p ∷ l) e
-      go false e = e
+pick-behind : (t : Bool) (p : List ℕ) (x y z : List (List ℕ)) → x ≡ [] → x ++ y ≡ z → x ++ pick t (p ∷ y) y ≡ pick t (p ∷ z) z
+pick-behind t p x y z n e = rw n (go t (rw n at e))
+  where
+    go : (t : Bool) → y ≡ z → pick t (p ∷ y) y ≡ pick t (p ∷ z) z
+    go true e = ap (λ (l : List (List ℕ)). p ∷ l) e
+    go false e = e
 
-  joined : (s : ℕ) (ps : List (List ℕ)) → AllWhole source ps → ending limit a b s ps ++ ending limit b c s ps ≡ ending limit a c s ps
-  unfolding ending
+module _ (F : Family) (laws : Lawful F) (limit a b c : ℕ) (h : a ≤ b) (i : b ≤ c) (came : List Bool) where
+  pub joined : (s : ℕ) (ps : List (List ℕ)) → AllWhole F ps → lastIn limit a b came s ps ++ lastIn limit b c came s ps ≡ lastIn limit a c came s ps
+  unfolding lastIn
   joined s [] w = refl
   joined s (p ∷ ps) w = go (decLt a (s + length p)) (decLt b (s + length p)) (decLt c (s + length p)) (joined (s + length p) ps (w .1))
     where
       go : Dec (a < s + length p) → Dec (b < s + length p) → Dec (c < s + length p)
-          → ending limit a b (s + length p) ps ++ ending limit b c (s + length p) ps ≡ ending limit a c (s + length p) ps
-          → ending limit a b s (p ∷ ps) ++ ending limit b c s (p ∷ ps) ≡ ending limit a c s (p ∷ ps)
+          → lastIn limit a b came (s + length p) ps ++ lastIn limit b c came (s + length p) ps ≡ lastIn limit a c came (s + length p) ps
+          → lastIn limit a b came s (p ∷ ps) ++ lastIn limit b c came s (p ∷ ps) ≡ lastIn limit a c came s (p ∷ ps)
       go (no j) k l on =
-          rw (ends-early limit a b s p ps (omega arith), ends-early limit b c s p ps (omega arith), ends-early limit a c s p ps (omega arith)) on
+          rw (early limit a b came s p ps (omega arith), early limit b c came s p ps (omega arith), early limit a c came s p ps (omega arith)) on
       go (yes j) (no k) l on =
-          rw (ends-in limit a b s p ps j (omega arith), ends-early limit b c s p ps (omega arith), ends-in limit a c s p ps j (omega arith))
-          (pick-front (leb (length p) limit) p _ _ _ on)
+          rw (ends-in limit a b came s p ps j (omega arith), early limit b c came s p ps (omega arith), ends-in limit a c came s p ps j (omega arith))
+          (pick-front (fitsAndCame limit came s p) p _ _ _ on)
       go (yes j) (yes k) (no l) on =
-          rw (ends-late limit a b s p ps k, ends-in limit b c s p ps k (omega arith), ends-in limit a c s p ps j (omega arith))
-          (pick-behind (leb (length p) limit) p _ _ _ (behind-ends limit a b (s + length p) ps (w .1) (omega arith)) on)
+          rw (late limit a b came s p ps k, ends-in limit b c came s p ps k (omega arith), ends-in limit a c came s p ps j (omega arith))
+          (pick-behind (fitsAndCame limit came s p) p _ _ _ (late-all F laws limit a b came (s + length p) ps (w .1) (omega arith)) on)
       go (yes j) (yes k) (yes l) on =
-          rw (ends-late limit a b s p ps k, ends-late limit b c s p ps l, ends-late limit a c s p ps l) on
+          rw (late limit a b came s p ps k, late limit b c came s p ps l, late limit a c came s p ps l) on
 
--- where all of n octets arrived
-drop-same : (n s : ℕ) → s ≤ n → drop s (replicate n true) ≡ replicate (n - s) true
-drop-same n s h =
-    let z : s + (n - s) ≡ n = omega arith in
-    ap (λ (k : ℕ). drop s (replicate k true)) (sym z)
-    ∙ ap (drop s) (sym (replicate-append-replicate s (n - s) true))
-    ∙ drop-at (replicate s true) (replicate (n - s) true) s (length-replicate s true)
+-- octets that are sent later change nothing
+prefix-same : (came more : List Bool) (s n : ℕ) → s + n ≤ length came → take n (drop s (came ++ more)) ≡ take n (drop s came)
+prefix-same came more s n h =
+    ap (take n) (drop-append-le s came more (omega arith)) ∙ take-append-le n (drop s came) more (simp length-drop (omega arith))
 
-all-there : (n s m : ℕ) → s + m ≤ n → allArrived (take m (drop s (replicate n true))) ≡ true
-all-there n s m h =
-    ap (λ (l : List Bool). allArrived (take m l)) (drop-same n s (omega arith)) ∙ ap allArrived (take-same m (n - s) true (omega arith)) ∙ all-came m
-
-last-ending : (limit a b n s : ℕ) (ps : List (List ℕ)) → b ≤ n → lastIn limit a b (replicate n true) s ps ≡ ending limit a b s ps
-unfolding lastIn ending
-last-ending limit a b n s [] h = refl
-last-ending limit a b n s (p ∷ ps) h =
-    go (leb (s + length p) b) refl (ltb a (s + length p)) (last-ending limit a b n (s + length p) ps h)
+sent-later : (limit a b : ℕ) (came more : List Bool) (s : ℕ) (ps : List (List ℕ)) → b ≤ length came
+    → lastIn limit a b (came ++ more) s ps ≡ lastIn limit a b came s ps
+unfolding lastIn
+sent-later limit a b came more s [] h = refl
+sent-later limit a b came more s (p ∷ ps) h = go (decLt b (s + length p)) (sent-later limit a b came more (s + length p) ps h)
   where
-    go : (t : Bool) → leb (s + length p) b ≡ t → (f : Bool) → lastIn limit a b (replicate n true) (s + length p) ps ≡ ending limit a b (s + length p) ps
-        → pick ((f && t) && (leb (length p) limit && allArrived (take (length p) (drop s (replicate n true)))))
-        (p ∷ lastIn limit a b (replicate n true) (s + length p) ps) (lastIn limit a b (replicate n true) (s + length p) ps)
-        ≡ pick ((f && t) && leb (length p) limit) (p ∷ ending limit a b (s + length p) ps) (ending limit a b (s + length p) ps)
-    go true e f on =
-        rw (on, all-there n s (length p) (omega (arith, leb-true (s + length p) b e)), and-yes (leb (length p) limit))
-    go false e f on = rw (on, and-no f)
+    go : Dec (b < s + length p) → lastIn limit a b (came ++ more) (s + length p) ps ≡ lastIn limit a b came (s + length p) ps
+        → lastIn limit a b (came ++ more) s (p ∷ ps) ≡ lastIn limit a b came s (p ∷ ps)
+    go (yes i) on = late limit a b (came ++ more) s p ps i ∙ on ∙ sym (late limit a b came s p ps i)
+    go (no i) on = rw (on, prefix-same came more s (length p) (omega arith))
+
+-- an octet that did not come
+and-no : (x : Bool) → (x && false) ≡ false
+and-no true = refl
+and-no false = refl
+
+not-all : (n : ℕ) (l : List Bool) (i : ℕ) → i < n → getD l i true ≡ false → allArrived (take n l) ≡ false
+unfolding allArrived
+not-all zero l i h e = absurd (omega arith)
+not-all (suc n) [] i h e = e
+not-all (suc n) (b ∷ l) zero h e = rw e
+not-all (suc n) (b ∷ l) (suc i) h e = rw (not-all n l i (omega arith) e) (and-no b)
+
+-- a packet whose last octet is lost
+last-lost : (came : List Bool) (c s n : ℕ) → 1 ≤ n → length came < s + n → s + n ≤ length came + c
+    → allArrived (take n (drop s (came ++ replicate c false))) ≡ false
+last-lost came c s n h i j =
+    let k : s + (n - 1) ≡ length came + (s + n - 1 - length came) = omega arith in
+    not-all n (drop s (came ++ replicate c false)) (n - 1) (omega arith)
+    (getD-drop s (came ++ replicate c false) (n - 1) true ∙ ap (λ (x : ℕ). getD (came ++ replicate c false) x true) k
+    ∙ getD-append-add came (replicate c false) (s + n - 1 - length came) true
+    ∙ getD-replicate c (s + n - 1 - length came) false true (omega arith))
+
+module _ (F : Family) (laws : Lawful F) (limit : ℕ) where
+  -- a frame that is lost finishes nothing
+  none-lost : (came : List Bool) (c s : ℕ) (ps : List (List ℕ)) → AllWhole F ps
+      → lastIn limit (length came) (length came + c) (came ++ replicate c false) s ps ≡ []
+  unfolding lastIn
+  none-lost came c s [] w = refl
+  none-lost came c s (p ∷ ps) w =
+      go (decLt (length came) (s + length p)) (decLt (length came + c) (s + length p)) (none-lost came c (s + length p) ps (w .1))
+    where
+      go : Dec (length came < s + length p) → Dec (length came + c < s + length p)
+          → lastIn limit (length came) (length came + c) (came ++ replicate c false) (s + length p) ps ≡ []
+          → lastIn limit (length came) (length came + c) (came ++ replicate c false) s (p ∷ ps) ≡ []
+      go (no h) i on = early limit (length came) (length came + c) (came ++ replicate c false) s p ps (omega arith) ∙ on
+      go (yes h) (yes i) on = late limit (length came) (length came + c) (came ++ replicate c false) s p ps i ∙ on
+      go (yes h) (no i) on =
+          gone limit (length came) (length came + c) (came ++ replicate c false) s p ps
+          (last-lost came c s (length p) (whole-some F laws p (w .0)) h (omega arith))
+          ∙ on
+
+  -- what is due up to the end of all octets sent came whole
+  pub arrived-whole : (came : List Bool) (s : ℕ) (ps : List (List ℕ)) → AllWhole F ps
+      → lastIn limit 0 (length came) came s ps ≡ arrivedWhole limit came s ps
+  unfolding lastIn arrivedWhole
+  arrived-whole came s [] w = refl
+  arrived-whole came s (p ∷ ps) w =
+      let h = whole-some F laws p (w .0) in
+      rw (lt-ltb 0 (s + length p) (omega arith), arrived-whole came (s + length p) ps (w .1))
+      (ap (λ (t : Bool). pick t (p ∷ arrivedWhole limit came (s + length p) ps) (arrivedWhole limit came (s + length p) ps))
+      (in-turn (leb (s + length p) (length came)) (leb (length p) limit) _))
+    where
+      in-turn : (x y z : Bool) → (x && (y && z)) ≡ (y && (x && z))
+      in-turn true true z = refl
+      in-turn true false z = refl
+      in-turn false true z = refl
+      in-turn false false z = refl
+
+-- the octets sent in a history stand behind those before it
+came-more : (u : SetUp) (es : List Event) (fs : List (List ℕ)) (came : List Bool) → (more : List Bool) × (cameAfter u came fs es ≡ came ++ more)
+unfolding cameAfter
+came-more u [] fs came = ([], sym (append-nil came))
+came-more u (lost ∷ es) [] came = ([], sym (append-nil came))
+came-more u (lost ∷ es) (f ∷ fs) came =
+    let m = came-more u es fs (came ++ replicate (carried u f) false) in
+    (replicate (carried u f) false ++ m .0, m .1 ∙ append-assoc came _ (m .0))
+came-more u (arrives out ∷ es) [] came = ([], sym (append-nil came))
+came-more u (arrives out ∷ es) (f ∷ fs) came =
+    let m = came-more u es fs (came ++ replicate (carried u f) true) in
+    (replicate (carried u f) true ++ m .0, m .1 ∙ append-assoc came _ (m .0))
+came-more u (other u′ lent out f ∷ es) fs came = came-more u es fs came
+
+-- what is due from the octets sent so far to the end of a history
+abbrev pub dueFrom : ℕ → SetUp → ℕ → List (List ℕ) → List Bool → List (List ℕ) → List Event → List (List ℕ)
+dueFrom limit u s ps came fs es = lastIn limit (length came) (length (cameAfter u came fs es)) (cameAfter u came fs es) s ps
+
+pub none-yet : (limit a : ℕ) (came : List Bool) (s : ℕ) (ps : List (List ℕ)) → lastIn limit a a came s ps ≡ []
+none-yet limit a came s ps = none-ends limit a a came s ps (omega arith)
+
+module _ (F : Family) (laws : Lawful F) (limit : ℕ) (u : SetUp) (s : ℕ) (ps : List (List ℕ)) (w : AllWhole F ps) (came : List Bool) (c : ℕ)
+    (fs : List (List ℕ)) (es : List Event) where
+  -- what the next c octets finish, and then what is due behind them
+  pub due-on : (b : Bool)
+      → lastIn limit (length came) (length came + c) (came ++ replicate c b) s ps ++ dueFrom limit u s ps (came ++ replicate c b) fs es
+      ≡ lastIn limit (length came) (length (cameAfter u (came ++ replicate c b) fs es)) (cameAfter u (came ++ replicate c b) fs es) s ps
+  due-on b =
+      let now = came ++ replicate c b in
+      let m = came-more u es fs now in
+      let l : length now ≡ length came + c = length-append came (replicate c b) ∙ ap (λ (n : ℕ). length came + n) (length-replicate c b) in
+      let n : length (cameAfter u now fs es) ≡ length now + length (m .0) = ap length (m .1) ∙ length-append now (m .0) in
+      let first : lastIn limit (length came) (length now) (cameAfter u now fs es) s ps ≡ lastIn limit (length came) (length came + c) now s ps =
+      ap (λ (x : List Bool). lastIn limit (length came) (length now) x s ps) (m .1)
+      ∙ sent-later limit (length came) (length now) now (m .0) s ps (omega arith)
+      ∙ ap (λ (x : ℕ). lastIn limit (length came) x now s ps) l in
+      ap (λ (x : List (List ℕ)). x ++ dueFrom limit u s ps now fs es) (sym first)
+      ∙ joined F laws limit (length came) (length now) (length (cameAfter u now fs es)) (omega arith) (omega arith) (cameAfter u now fs es) s ps w
+
+  -- behind a frame that is lost
+  pub due-behind : dueFrom limit u s ps (came ++ replicate c false) fs es
+      ≡ lastIn limit (length came) (length (cameAfter u (came ++ replicate c false) fs es)) (cameAfter u (came ++ replicate c false) fs es) s ps
+  due-behind =
+      sym (ap (λ (x : List (List ℕ)). x ++ dueFrom limit u s ps (came ++ replicate c false) fs es) (none-lost F laws limit came c s ps w)) ∙ due-on false
 
 -- the wanted ones
-wanted-append : (a b : List (List ℕ)) → wanted source (a ++ b) ≡ wanted source a ++ wanted source b
+pub wanted-append : (F : Family) (a b : List (List ℕ)) → wanted F (a ++ b) ≡ wanted F a ++ wanted F b
 unfolding wanted
-wanted-append [] b = refl
-wanted-append (p ∷ a) b = go (idleOf p) (wanted-append a b)
+wanted-append F [] b = refl
+wanted-append F (p ∷ a) b = go (F .idle p) (wanted-append F a b)
   where
-    go : (t : Bool) → wanted source (a ++ b) ≡ wanted source a ++ wanted source b
-        → pick t (wanted source (a ++ b)) (p ∷ wanted source (a ++ b)) ≡ pick t (wanted source a) (p ∷ wanted source a) ++ wanted source b
+    go : (t : Bool) → wanted F (a ++ b) ≡ wanted F a ++ wanted F b
+        → pick t (wanted F (a ++ b)) (p ∷ wanted F (a ++ b)) ≡ pick t (wanted F a) (p ∷ wanted F a) ++ wanted F b
     go true e = e
     go false e = ap (λ (l : List (List ℕ)). p ∷ l) e
-
--- how many octets of the stream the frames carry together
-pub total : SetUp → List (List ℕ) → ℕ
-total u [] = 0
-total u (f ∷ fs) = carried u f + total u fs
-
-pub total-more : (u : SetUp) (f : List ℕ) (fs : List (List ℕ)) → total u (f ∷ fs) ≡ carried u f + total u fs
-unfolding total
-total-more u f fs = refl
-
-due-together : (limit : ℕ) (u : SetUp) (tail : List ℕ) (ps : List (List ℕ)) → AllWhole source ps → (fs : List (List ℕ)) (n : ℕ)
-    → dueInAll source limit u tail ps (replicate n true) fs ≡ wanted source (ending limit n (n + total u fs) (length tail) ps)
-unfolding dueInAll total wanted
-due-together limit u tail ps w [] n = sym (ap (wanted source) (none-ends limit n (n + 0) (length tail) ps (omega arith)))
-due-together limit u tail ps w (f ∷ fs) n =
-    let c = carried u f in
-    let came : replicate n true ++ replicate c true ≡ replicate (n + c) true = replicate-append-replicate n c true in
-    let first : brought limit u tail ps (replicate n true) f ≡ ending limit n (n + c) (length tail) ps =
-    ap₂ (λ (k : ℕ) (l : List Bool). lastIn limit k (k + c) l (length tail) ps) (length-replicate n true) came
-    ∙ last-ending limit n (n + c) (n + c) (length tail) ps (omega arith) in
-    ap₂ (λ (x y : List (List ℕ)). wanted source x ++ y) first
-    (ap (λ (l : List Bool). dueInAll source limit u tail ps l fs) came ∙ due-together limit u tail ps w fs (n + c))
-    ∙ sym (wanted-append (ending limit n (n + c) (length tail) ps) (ending limit (n + c) (n + c + total u fs) (length tail) ps))
-    ∙ ap (wanted source)
-    (joined limit n (n + c) (n + c + total u fs) (omega arith) (omega arith) (length tail) ps w
-    ∙ ap (λ (k : ℕ). ending limit n k (length tail) ps) (add-assoc n c (total u fs)))
-
--- idle packets behind give nothing, and packets that all end within give those that fit
-idle-none : (limit a b s : ℕ) (gs : List (List ℕ)) → AllIdle gs → wanted source (ending limit a b s gs) ≡ []
-unfolding ending wanted
-idle-none limit a b s [] i = refl
-idle-none limit a b s (g ∷ gs) i = go ((ltb a (s + length g) && leb (s + length g) b) && leb (length g) limit) (idle-none limit a b (s + length g) gs (i .1))
-  where
-    go : (t : Bool) → wanted source (ending limit a b (s + length g) gs) ≡ []
-        → wanted source (pick t (g ∷ ending limit a b (s + length g) gs) (ending limit a b (s + length g) gs)) ≡ []
-    go true e = rw (i .0) e
-    go false e = e
-
-wanted-none : wanted source [] ≡ []
-unfolding wanted
-wanted-none = refl
-
-wanted-cons : (p : List ℕ) (x y : List (List ℕ)) → wanted source x ≡ wanted source y → wanted source (p ∷ x) ≡ wanted source (p ∷ y)
-unfolding wanted
-wanted-cons p x y e = rw e
-
-fits-out : (limit b s : ℕ) (ps gs : List (List ℕ)) → AllWhole source ps → AllIdle gs → s + length (endToEnd ps) ≤ b
-    → wanted source (ending limit 0 b s (ps ++ gs)) ≡ wanted source (fitting limit ps)
-unfolding fitting
-fits-out limit b s [] gs w i h = idle-none limit 0 b s gs i ∙ sym wanted-none
-fits-out limit b s (p ∷ ps) gs w i h =
-    let l = length-append p (endToEnd ps) in
-    let k = whole-some source source-lawful p (w .0) in
-    ap (wanted source) (ends-in limit 0 b s p (ps ++ gs) (omega arith) (omega arith))
-    ∙ go (leb (length p) limit) (fits-out limit b (s + length p) ps gs (w .1) i (omega arith))
-  where
-    go : (t : Bool) → wanted source (ending limit 0 b (s + length p) (ps ++ gs)) ≡ wanted source (fitting limit ps)
-        → wanted source (pick t (p ∷ ending limit 0 b (s + length p) (ps ++ gs)) (ending limit 0 b (s + length p) (ps ++ gs))) ≡ wanted source (pick t (p ∷ fitting limit ps) (fitting limit ps))
-    go true e = wanted-cons p _ _ e
-    go false e = e
-
-module _ (limit : ℕ) (u : SetUp) (tail : List ℕ) (ps gs fs : List (List ℕ)) (w : AllWhole source (ps ++ gs)) (i : AllIdle gs) where
-  pub all-due : AllWhole source ps → length tail + length (endToEnd ps) ≤ total u fs
-      → dueInAll source limit u tail (ps ++ gs) [] fs ≡ wanted source (fitting limit ps)
-  all-due v h =
-      due-together limit u tail (ps ++ gs) w fs 0
-      ∙ ap (λ (k : ℕ). wanted source (ending limit 0 k (length tail) (ps ++ gs))) (zero-add (total u fs))
-      ∙ fits-out limit (total u fs) (length tail) ps gs v i h
-
-  pub none-due : ps ≡ [] → dueInAll source limit u tail (ps ++ gs) [] fs ≡ wanted source (fitting limit ps)
-  unfolding fitting wanted
-  none-due e =
-      due-together limit u tail (ps ++ gs) w fs 0
-      ∙ rw e (idle-none limit 0 (0 + total u fs) (length tail) gs i)

@@ -1,24 +1,25 @@
 -- B1 to B8, computed from the definitions of reader and writer.
 -- Assumes nothing.
-use mathlib.Core.Path.{_≡_, refl, _∙_, sym, ap}
-use mathlib.Core.Bool.{Bool, true, false}
-use mathlib.Core.List.{List, [], _∷_, _++_}
+use mathlib.Core.Path.{_≡_, refl, _∙_, ap}
+use mathlib.Core.Bool.{true}
+use mathlib.Core.List.{List, [], _∷_}
 use Prim.Native.Nat.{ℕ, _+_, _*_, _/_, _≤_}
 use native.Mathlib.Omega.{arith}
 use borrow.Author.Tests.{le-leb}
-use lib.ListN.{length, getD, take, set, replicate}
+use lib.ListN.{length, take, set, replicate}
 use Rattle.octets.specs.Laid.{laid}
 use Rattle.octets.proofs.Laws.{length-laid}
 use Rattle.octets.proofs.Runs.{laid-nil}
 use Rattle.octets.specs.Numbers.{numberAt, bitsAt, octetsOf, packed}
-use Rattle.octets.specs.Pick.{pick}
 use Rattle.packet.specs.Chain.{wholeIn, frontOf, chainIn, chainOf, distanceIn, distanceOf}
 use Rattle.packet.specs.Size.{idleOf, sizeOf, most, source}
 use Rattle.frame.specs.Closing.{row20, row25, flaggedBy, wordOctets, headerOctets, closeSize, withCheck, frameAround}
 use Rattle.frame.specs.Counts.{after, gapOf}
 use Rattle.frame.specs.Header.{headerOf}
-use Rattle.frame.specs.Opening.{row1, row5, row6, row7, row8, row9, row10, row11, row12, secondarySize, dataSize, wordOf, frameOf, openTable}
+use Rattle.frame.specs.Opening.{row1, row5, row6, row7, row8, row9, row10, row11, row12, secondarySize, dataSize, wordOf, frameOf, frameTable}
 use Rattle.frame.specs.SetUp.{fitsOf}
+use Rattle.frame.specs.declared.closing.ControlWord.{ControlWord}
+use Rattle.frame.specs.declared.set_up.SetUp.{SetUp}
 use Rattle.frame.specs.Table.{firstCause}
 use Rattle.channel.specs.Busy.{busyState}
 use Rattle.channel.specs.Rules.{recordFollows, allFollow, channelFollows, stateFollows, hunts, judged}
@@ -28,15 +29,18 @@ use Rattle.channel.proofs.Laws.{part-inside, part-own, part-length, fresh-follo
 use Rattle.channel.specs.declared.state.Channel.{Channel}
 use Rattle.channel.specs.declared.state.Record.{Record}
 use Rattle.channel.specs.declared.state.State.{State}
-use Rattle.channel.specs.declared.state.State.the-variants.{Hunting, Gathering}
+use Rattle.channel.specs.declared.state.State.the-variants.{Gathering}
 use Rattle.reader.specs.Answers as reading
+use Rattle.reader.specs.declared.reading.Answer.{Answer}
+use Rattle.reader.specs.declared.reading.Answer.the-variants.{Refused, Accepted}
 use Rattle.reader.specs.Reading as read
 use Rattle.walk.specs.Steps.{stepsOf, carriesNone, gapFor, hunted, endedBy, courseOf, resumed, gathered, agrees, agreesBy, calledAt}
 use Rattle.walk.specs.Walk.{walkOf, turns, turn, seenOf, front, cutOf, talliedAll, tallied, handed, handedAll}
 use Rattle.writer.specs.Answers as writing
 use Rattle.writer.specs.Laying.{idlePacket, leftPart, runPart, placedPart, fillerOf, leftAfter, fieldOf, leftOverAfter, pointerOf, nothingOf}
 use Rattle.writer.specs.Writing as write
-use Rattle.demands.specs.Bench.{bench, placeOf, run, frame1, frame2, frame3, written, told, values, benchOf, number, benchTable, All-hold, At-most-292, Bench}
+use Rattle.writer.specs.declared.writing.Place.{Place}
+use Rattle.demands.specs.Bench.{bench, placeOf, run, frame1, frame2, frame3, written, told, values, benchOf, number, writingNumber, finished, heardAt, Bench}
 use Rattle.demands.proofs.FewEnough.{few-enough}
 
 -- the writings
@@ -60,7 +64,7 @@ pub record Passes (rec : Record) (store out : List ℕ) : Type 0 where
 
 -- the first reading
 told1 : (store out : List ℕ) → Passes freshRecord store out → told freshRecord store out frame1 ≡ values 1 9 4 0 0 1 0 0
-unfolding read.answerOver read.readTableOver read.kindOf read.reportOf row1 fitsOf openTable row5 row6 row7 row8 row9 row10 row11 row12 secondarySize dataSize wordOf frameOf headerOf firstCause bitsAt numberAt stepsOf carriesNone gapFor gapOf hunted endedBy courseOf walkOf turns turn seenOf front cutOf sizeOf idleOf talliedAll tallied reading.valuesOf resumed
+unfolding read.answerOver read.readTableOver read.kindOf read.reportOf row1 fitsOf frameTable row5 row6 row7 row8 row9 row10 row11 row12 secondarySize dataSize wordOf frameOf headerOf firstCause bitsAt numberAt stepsOf carriesNone gapFor gapOf hunted endedBy courseOf walkOf turns turn seenOf front cutOf sizeOf idleOf talliedAll tallied reading.valuesOf resumed
 told1 store out p = rw (p .store-fits, p .output-fits, p .follows)
 
 -- what it leaves: channel 3 heard, with the first six octets of a filler packet held
@@ -81,15 +85,15 @@ storeAfter store = withPart most 3 store (partAfter store)
 
 record1 : (store out : List ℕ) → Passes freshRecord store out
     → read.recordOf bench freshRecord store out frame1 ≡ recordAfter 4 (Gathering 6)
-unfolding read.recordOver read.readTableOver read.recordAfter row1 fitsOf openTable row5 row6 row7 row8 row9 row10 row11 row12 secondarySize dataSize wordOf frameOf headerOf firstCause bitsAt numberAt stepsOf carriesNone gapFor gapOf hunted endedBy courseOf walkOf turns turn seenOf front cutOf sizeOf idleOf talliedAll tallied resumed recordAfter channelAfter
+unfolding read.recordOver read.readTableOver read.recordAfter row1 fitsOf frameTable row5 row6 row7 row8 row9 row10 row11 row12 secondarySize dataSize wordOf frameOf headerOf firstCause bitsAt numberAt stepsOf carriesNone gapFor gapOf hunted endedBy courseOf walkOf turns turn seenOf front cutOf sizeOf idleOf talliedAll tallied resumed recordAfter channelAfter
 record1 store out p = rw (p .store-fits, p .output-fits, p .follows)
 
 store1 : (store out : List ℕ) → Passes freshRecord store out → read.storeOf bench freshRecord store out frame1 ≡ storeAfter store
-unfolding read.storeOver read.readTableOver read.storeAfter row1 fitsOf openTable row5 row6 row7 row8 row9 row10 row11 row12 secondarySize dataSize wordOf frameOf headerOf firstCause bitsAt numberAt stepsOf carriesNone gapFor gapOf hunted endedBy courseOf walkOf turns turn seenOf front cutOf sizeOf idleOf talliedAll tallied resumed storeAfter partAfter held
+unfolding read.storeOver read.readTableOver read.storeAfter row1 fitsOf frameTable row5 row6 row7 row8 row9 row10 row11 row12 secondarySize dataSize wordOf frameOf headerOf firstCause bitsAt numberAt stepsOf carriesNone gapFor gapOf hunted endedBy courseOf walkOf turns turn seenOf front cutOf sizeOf idleOf talliedAll tallied resumed storeAfter partAfter held
 store1 store out p = rw (p .store-fits, p .output-fits, p .follows)
 
 output1 : (store out : List ℕ) → Passes freshRecord store out → take 8 (read.outputOf bench freshRecord store out frame1) ≡ run
-unfolding read.outputOver read.readTableOver read.outputAfter row1 fitsOf openTable row5 row6 row7 row8 row9 row10 row11 row12 secondarySize dataSize wordOf frameOf headerOf firstCause bitsAt numberAt stepsOf carriesNone gapFor gapOf hunted endedBy courseOf walkOf turns turn seenOf front cutOf sizeOf idleOf talliedAll tallied handed handedAll resumed laid
+unfolding read.outputOver read.readTableOver read.outputAfter row1 fitsOf frameTable row5 row6 row7 row8 row9 row10 row11 row12 secondarySize dataSize wordOf frameOf headerOf firstCause bitsAt numberAt stepsOf carriesNone gapFor gapOf hunted endedBy courseOf walkOf turns turn seenOf front cutOf sizeOf idleOf talliedAll tallied handed handedAll resumed laid
 output1 store out p = rw (p .store-fits, p .output-fits, p .follows)
 
 module _ (store : List ℕ) (h : length store ≡ most * 8) where
@@ -118,14 +122,14 @@ module _ (store : List ℕ) (h : length store ≡ most * 8) where
 
   told2 : (out : List ℕ) → outputFits most (length out) ≡ true
       → told (recordAfter 4 (Gathering 6)) (storeAfter store) out frame2 ≡ values 1 10 5 1 0 0 2 0
-  unfolding read.answerOver read.readTableOver read.kindOf read.reportOf row1 fitsOf openTable row5 row6 row7 row8 row9 row10 row11 row12 secondarySize dataSize wordOf frameOf headerOf firstCause bitsAt numberAt stepsOf carriesNone gapFor gapOf hunted endedBy courseOf walkOf turns turn seenOf front cutOf sizeOf idleOf talliedAll tallied reading.valuesOf resumed gathered agrees agreesBy calledAt held recordAfter channelAfter
+  unfolding read.answerOver read.readTableOver read.kindOf read.reportOf row1 fitsOf frameTable row5 row6 row7 row8 row9 row10 row11 row12 secondarySize dataSize wordOf frameOf headerOf firstCause bitsAt numberAt stepsOf carriesNone gapFor gapOf hunted endedBy courseOf walkOf turns turn seenOf front cutOf sizeOf idleOf talliedAll tallied reading.valuesOf resumed gathered agrees agreesBy calledAt held recordAfter channelAfter
   told2 out o =
       let p = passes-after out o in
       rw (p .store-fits, p .output-fits, p .follows, held-there)
 
   record2 : (out : List ℕ) → outputFits most (length out) ≡ true
       → read.recordOf bench (recordAfter 4 (Gathering 6)) (storeAfter store) out frame2 ≡ recordAfter 5 (Gathering 0)
-  unfolding read.recordOver read.readTableOver read.recordAfter row1 fitsOf openTable row5 row6 row7 row8 row9 row10 row11 row12 secondarySize dataSize wordOf frameOf headerOf firstCause bitsAt numberAt stepsOf carriesNone gapFor gapOf hunted endedBy courseOf walkOf turns turn seenOf front cutOf sizeOf idleOf talliedAll tallied resumed gathered agrees agreesBy calledAt held recordAfter channelAfter
+  unfolding read.recordOver read.readTableOver read.recordAfter row1 fitsOf frameTable row5 row6 row7 row8 row9 row10 row11 row12 secondarySize dataSize wordOf frameOf headerOf firstCause bitsAt numberAt stepsOf carriesNone gapFor gapOf hunted endedBy courseOf walkOf turns turn seenOf front cutOf sizeOf idleOf talliedAll tallied resumed gathered agrees agreesBy calledAt held recordAfter channelAfter
   record2 out o =
       let p = passes-after out o in
       rw (p .store-fits, p .output-fits, p .follows, held-there)
@@ -133,7 +137,7 @@ module _ (store : List ℕ) (h : length store ≡ most * 8) where
   store2 : (out : List ℕ) → outputFits most (length out) ≡ true
       → read.storeOf bench (recordAfter 4 (Gathering 6)) (storeAfter store) out frame2
       ≡ withPart most 3 (storeAfter store) (laid (partOf most 3 (storeAfter store)) 0 [])
-  unfolding read.storeOver read.readTableOver read.storeAfter row1 fitsOf openTable row5 row6 row7 row8 row9 row10 row11 row12 secondarySize dataSize wordOf frameOf headerOf firstCause bitsAt numberAt stepsOf carriesNone gapFor gapOf hunted endedBy courseOf walkOf turns turn seenOf front cutOf sizeOf idleOf talliedAll tallied resumed gathered agrees agreesBy calledAt held recordAfter channelAfter
+  unfolding read.storeOver read.readTableOver read.storeAfter row1 fitsOf frameTable row5 row6 row7 row8 row9 row10 row11 row12 secondarySize dataSize wordOf frameOf headerOf firstCause bitsAt numberAt stepsOf carriesNone gapFor gapOf hunted endedBy courseOf walkOf turns turn seenOf front cutOf sizeOf idleOf talliedAll tallied resumed gathered agrees agreesBy calledAt held recordAfter channelAfter
   store2 out o =
       let p = passes-after out o in
       rw (p .store-fits, p .output-fits, p .follows, held-there)
@@ -149,29 +153,36 @@ module _ (store : List ℕ) (h : length store ≡ most * 8) where
   -- the third reading, with B2 and without
   told3 : (out : List ℕ) → outputFits most (length out) ≡ true
       → told (recordAfter 4 (Gathering 6)) (storeAfter store) out frame3 ≡ values 2 11 6 2046 1 0 0 1
-  unfolding read.answerOver read.readTableOver read.kindOf read.reportOf row1 fitsOf openTable row5 row6 row7 row8 row9 row10 row11 row12 secondarySize dataSize wordOf frameOf headerOf firstCause bitsAt numberAt stepsOf carriesNone gapFor gapOf hunted endedBy courseOf walkOf turns turn seenOf front cutOf sizeOf idleOf talliedAll tallied reading.valuesOf resumed recordAfter channelAfter busyState
+  unfolding read.answerOver read.readTableOver read.kindOf read.reportOf row1 fitsOf frameTable row5 row6 row7 row8 row9 row10 row11 row12 secondarySize dataSize wordOf frameOf headerOf firstCause bitsAt numberAt stepsOf carriesNone gapFor gapOf hunted endedBy courseOf walkOf turns turn seenOf front cutOf sizeOf idleOf talliedAll tallied reading.valuesOf resumed recordAfter channelAfter busyState
   told3 out o =
       let p = passes-after out o in
       rw (p .store-fits, p .output-fits, p .follows)
 
 told3-behind : (store out : List ℕ) → length store ≡ most * 8 → outputFits most (length out) ≡ true
     → told (recordAfter 5 (Gathering 0)) store out frame3 ≡ values 2 11 6 2046 0 0 0 0
-unfolding read.answerOver read.readTableOver read.kindOf read.reportOf row1 fitsOf openTable row5 row6 row7 row8 row9 row10 row11 row12 secondarySize dataSize wordOf frameOf headerOf firstCause bitsAt numberAt stepsOf carriesNone gapFor gapOf hunted endedBy courseOf walkOf turns turn seenOf front cutOf sizeOf idleOf talliedAll tallied reading.valuesOf resumed recordAfter channelAfter busyState storeFits recordFollows allFollow channelFollows stateFollows hunts judged
+unfolding read.answerOver read.readTableOver read.kindOf read.reportOf row1 fitsOf frameTable row5 row6 row7 row8 row9 row10 row11 row12 secondarySize dataSize wordOf frameOf headerOf firstCause bitsAt numberAt stepsOf carriesNone gapFor gapOf hunted endedBy courseOf walkOf turns turn seenOf front cutOf sizeOf idleOf talliedAll tallied reading.valuesOf resumed recordAfter channelAfter busyState storeFits recordFollows allFollow channelFollows stateFollows hunts judged
 told3-behind store out h o = rw (h, o)
 
 -- B6 and B7
 pointed : (store out : List ℕ) → Passes freshRecord store out
     → (number bench freshRecord store out (set frame1 5 14) ≡ 12 ∷ []) × (number bench freshRecord store out (set frame1 5 13) ≡ 0 ∷ [])
-unfolding read.answerOver read.readTableOver read.kindOf read.reportOf row1 fitsOf openTable row5 row6 row7 row8 row9 row10 row11 row12 secondarySize dataSize wordOf frameOf headerOf firstCause bitsAt numberAt stepsOf carriesNone gapFor gapOf hunted endedBy courseOf walkOf turns turn seenOf front cutOf sizeOf idleOf talliedAll tallied reading.valuesOf resumed
+unfolding read.answerOver read.readTableOver read.kindOf read.reportOf row1 fitsOf frameTable row5 row6 row7 row8 row9 row10 row11 row12 secondarySize dataSize wordOf frameOf headerOf firstCause bitsAt numberAt stepsOf carriesNone gapFor gapOf hunted endedBy courseOf walkOf turns turn seenOf front cutOf sizeOf idleOf talliedAll tallied reading.valuesOf resumed
 pointed store out p = (rw (p .store-fits, p .output-fits, p .follows), rw (p .store-fits, p .output-fits, p .follows))
 
-outside : (store out f : List ℕ) → (number (benchOf 12) freshRecord store out f ≡ 1 ∷ []) × (number (benchOf 2049) freshRecord store out f ≡ 1 ∷ [])
-unfolding read.answerOver read.readTableOver read.kindOf read.reportOf row1 fitsOf openTable row5 row6 row7 row8 row9 row10 row11 row12 secondarySize dataSize wordOf frameOf headerOf firstCause bitsAt numberAt stepsOf carriesNone gapFor gapOf hunted endedBy courseOf walkOf turns turn seenOf front cutOf sizeOf idleOf talliedAll tallied reading.valuesOf resumed
-outside store out f = (refl, refl)
+outside : (rec : Record) (store out f : List ℕ) → (number (benchOf 12) rec store out f ≡ 1 ∷ []) × (number (benchOf 2049) rec store out f ≡ 1 ∷ [])
+unfolding read.answerOver read.readTableOver row1 fitsOf firstCause reading.valuesOf
+outside rec store out f = (refl, refl)
 
-b5 : gapOf 1 254 ∷ [] ≡ 2 ∷ []
-unfolding gapOf
-b5 = refl
+outside-writing : (v : ℕ) (p : Place) (word : ControlWord) (r out : List ℕ)
+    → (writingNumber (benchOf 12) v p word r out ≡ 1 ∷ []) × (writingNumber (benchOf 2049) v p word r out ≡ 1 ∷ [])
+unfolding write.answerOf write.nextOf write.writeTable row1 fitsOf firstCause writing.valuesOf
+outside-writing v p word r out = (refl, refl)
+
+-- B5
+told5 : (store out : List ℕ) → length store ≡ most * 8 → outputFits most (length out) ≡ true
+    → told (heardAt 254) store out (set frame1 3 1) ≡ values 1 9 1 0 2 1 0 0
+unfolding read.answerOver read.readTableOver read.kindOf read.reportOf row1 fitsOf frameTable row5 row6 row7 row8 row9 row10 row11 row12 secondarySize dataSize wordOf frameOf headerOf firstCause bitsAt numberAt stepsOf carriesNone gapFor gapOf hunted endedBy courseOf walkOf turns turn seenOf front cutOf sizeOf idleOf talliedAll tallied reading.valuesOf resumed recordAfter channelAfter busyState storeFits recordFollows allFollow channelFollows stateFollows hunts judged
+told5 store out h o = rw (h, o)
 
 output-passes : (out : List ℕ) → 6144 ≤ length out → outputFits most (length out) ≡ true
 unfolding outputFits
@@ -182,44 +193,43 @@ unfolding storeFits
 fresh-passes store out h o =
     record { store-fits = rw h; output-fits = output-passes out o; follows = fresh-follows source most store }
 
-table : (store out₁ out₂ out₃ w f : List ℕ) → length store ≡ 32768 → 6144 ≤ length out₁ → 6144 ≤ length out₂ → 6144 ≤ length out₃
-    → length w ≡ 20 → All-hold (benchTable store out₁ out₂ out₃ w f)
-table store out₁ out₂ out₃ w f h o₁ o₂ o₃ k =
-    let p = fresh-passes store out₁ h o₁ in
-    let q₂ = output-passes out₂ o₂ in
-    let q₃ = output-passes out₃ o₃ in
-    let r₁ = record1 store out₁ p in
-    let s₁ = store1 store out₁ p in (
-      b1 w k,
-      (
-        b2 w k,
-        (
-          b3 w k,
-          (
-            told1 store out₁ p,
-            (
-              output1 store out₁ p,
-              (
-                rw (r₁, s₁) (told2 store h out₂ q₂),
-                (
-                  rw (r₁, s₁, record2 store h out₂ q₂) (told3-behind _ out₃ (store2-length store h out₂ q₂) q₃),
-                  (
-                    rw (r₁, s₁) (told3 store h out₃ q₃),
-                    (b5, (pointed store out₁ p .0, (pointed store out₁ p .1, (outside store out₁ f .0, (outside store out₁ f .1, tt))))),
-                  ),
-                ),
-              ),
-            ),
-          ),
-        ),
-      ),
-    )
-
 -- B8, by the bound on every accepted frame
-at-most-292 : At-most-292
-at-most-292 u rec store out f a e d =
-    let b : (frameOf u f .size + 6) / 7 ≡ 292 = rw d in
-    omega (arith, few-enough u rec store out f a e)
+at-most-292 : (u : SetUp) (rec : Record) (store out f : List ℕ) → frameOf u f .size ≡ 2042 → finished (read.answerOf u rec store out f) ≤ 292
+at-most-292 u rec store out f d = by (read.answerOf u rec store out f) refl
+  where
+    by : (a : Answer) → read.answerOf u rec store out f ≡ a → finished a ≤ 292
+    by (Refused r) e = omega arith
+    by (Accepted a) e =
+        let b : (frameOf u f .size + 6) / 7 ≡ 292 = rw d in
+        omega (arith, few-enough u rec store out f a e)
+
+-- a line and those below it
+and : {A B : Type 0} → A → B → A × B
+and a b = (a, b)
 
 pub bench-holds : Bench
-bench-holds = (table, at-most-292)
+bench-holds i k =
+    let p = fresh-passes (i .store) (i .out₁) (k .store-whole) (k .room₁) in
+    let q₂ = output-passes (i .out₂) (k .room₂) in
+    let q₃ = output-passes (i .out₃) (k .room₃) in
+    let r₁ = record1 (i .store) (i .out₁) p in
+    let s₁ = store1 (i .store) (i .out₁) p in
+    let h = k .store-whole in
+    let reading7 = outside (i .rec) (i .any-store) (i .any-out) (i .any-frame) in
+    let writing7 = outside-writing (i .any-channel) (i .any-place) (i .any-word) (i .any-run) (i .any-output) in
+    and (b1 (i .w) (k .output-whole))
+    (and (b2 (i .w) (k .output-whole))
+    (and (b3 (i .w) (k .output-whole))
+    (and (told1 (i .store) (i .out₁) p)
+    (and (output1 (i .store) (i .out₁) p)
+    (and (rw (r₁, s₁) (told2 (i .store) h (i .out₂) q₂))
+    (and (rw (r₁, s₁, record2 (i .store) h (i .out₂) q₂) (told3-behind _ (i .out₃) (store2-length (i .store) h (i .out₂) q₂) q₃))
+    (and (rw (r₁, s₁) (told3 (i .store) h (i .out₃) q₃))
+    (and (told5 (i .store) (i .out₁) h (p .output-fits))
+    (and (pointed (i .store) (i .out₁) p .0)
+    (and (pointed (i .store) (i .out₁) p .1)
+    (and (reading7 .0)
+    (and (reading7 .1)
+    (and (writing7 .0)
+    (and (writing7 .1)
+    (and (at-most-292 (i .u) (i .rec) (i .any-store) (i .any-out) (i .f) (k .field-of-2042)) tt)))))))))))))))

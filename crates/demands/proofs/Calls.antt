@@ -2,7 +2,7 @@
 -- call keeps.
 -- Assumes nothing.
 use mathlib.Core.Path.{_≡_, refl, _∙_, sym, ap}
-use mathlib.Core.Bool.{Bool, true, false}
+use mathlib.Core.Bool.{true}
 use mathlib.Core.List.{List, _++_}
 use mathlib.Core.Logic.{inl, inr}
 use Prim.Native.Nat.{ℕ, _+_, _*_, _≤_, _<_}
@@ -11,9 +11,7 @@ use lib.ListN.{length, getD, take, drop, length-append, length-take, length-drop
 use lib.Seq.{getD-set-same, take-at}
 use borrow.Author.Tests.{eq-eqb, ne-eqb, le-leb}
 use Rattle.octets.specs.Laid.{laid}
-use Rattle.octets.specs.Numbers.{bitsAt}
 use Rattle.packet.specs.Family.{Family, Octets}
-use Rattle.frame.specs.Header.{headerOf}
 use Rattle.frame.specs.Opening.{openOf, frameOf, idleData}
 use Rattle.frame.specs.SetUp.{mostLength}
 use Rattle.frame.specs.Table.{None}
@@ -62,18 +60,13 @@ part-of-length limit v store part e h l =
       length-drop (limit * v + limit) store,
     )
 
--- a channel count has eight bits
-frame-count : (u : SetUp) (f : List ℕ) → frameOf u f .header .count .0 < 256
-unfolding frameOf headerOf bitsAt
-frame-count u f = omega arith
-
 -- a frame that opens: its count, and how many octets of the stream it carries
 module _ (u : SetUp) (f : List ℕ) (x : Frame) (opens : openOf u f ≡ Opened.Accepted x) where
   frame-is : x ≡ frameOf u f
   frame-is = accepted-exactly u f x .0 opens .0
 
   pub count-lt : x .header .count .0 < 256
-  count-lt = rw frame-is (frame-count u f)
+  count-lt = opened-sound u f x opens .count-bits
 
   pub carried-none : x .header .pointer ≡ idleData → carried u f ≡ 0
   carried-none e = rw (← frame-is, eq-eqb (x .header .pointer) idleData e)

@@ -18,6 +18,8 @@ demand1 =
       writing-untouched = writer.refused-untouched;
       opening-numbers = frame.number-exactly;
       opening-accepts = frame.accepted-exactly;
+      opening-zero = frame.refused-zero;
       closing-numbers = frame.close-exactly;
+      closing-writes = frame.close-written;
       closing-untouched = frame.close-untouched;
     }

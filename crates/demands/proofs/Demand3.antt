@@ -1,27 +1,31 @@
--- Demand 3: along every history that keeps to the demand's conditions, each arrival hands out exactly what is due in it.
+-- Demand 3: along every history that keeps to the demand's conditions, each arrival hands out exactly what is due in it, and all
+-- of them together exactly the packets that arrived whole.
 -- Assumes nothing.
-use mathlib.Core.Path.{refl, ap}
+use mathlib.Core.Path.{_≡_, refl, ap}
 use mathlib.Core.Bool.{Bool, true, false}
 use mathlib.Core.List.{List, [], _∷_, _++_}
 use mathlib.Core.Logic.{inl}
-use Prim.Native.Nat.{ℕ, _+_, _<_}
+use Prim.Native.Nat.{ℕ, _+_, _*_, _<_}
 use native.Mathlib.Omega.{arith}
-use lib.ListN.{replicate, getD-replicate}
-use Rattle.packet.specs.Family.{Family, AllWhole}
+use lib.ListN.{length, getD, replicate, getD-replicate}
+use Rattle.packet.specs.Family.{Family, Octets, AllWhole}
 use Rattle.packet.specs.Size.{most, source}
 use Rattle.walk.proofs.SourceLaws.{source-sound}
 use Rattle.walk.specs.Theorems.{Sound}
 use Rattle.frame.specs.declared.set_up.SetUp.{SetUp}
+use Rattle.channel.specs.Rules.{recordFollows}
 use Rattle.channel.specs.State.{freshChannel, freshRecord}
 use Rattle.channel.specs.declared.state.Channel.{Channel}
 use Rattle.channel.specs.declared.state.Record.{Record}
 use Rattle.channel.proofs.Laws.{fresh-follows}
 use Rattle.reader.specs.Reading.{recordOver, storeOver}
 use Rattle.demands.specs.Demand3.{Demand3Over, Demand3-general, Demand3, Demand3-freshOver, Demand3-fresh}
+use Rattle.demands.specs.Demand3.{Demand3-together-general, Demand3-together, Demand3-together-freshOver, Demand3-together-fresh}
 use Rattle.demands.specs.History.{Event, Allowed, Delivers, carried}
 use Rattle.demands.specs.History.Event.{lost, arrives, other}
 use Rattle.demands.specs.History.Lent.{both, with-store, with-record}
-use Rattle.demands.specs.Sender.{streamOf}
+use Rattle.demands.specs.Sender.{Sends, streamOf}
+use Rattle.demands.proofs.HandsOut.{handed-together}
 use Rattle.demands.proofs.Hears.Reads.{unheard}
 use Rattle.demands.proofs.History.{Kept, after-lost, arrival-calls, arrival-keeps, other-keeps, record-keeps, store-keeps}
 use Rattle.demands.proofs.Spot.Lost.{lost-free}
@@ -48,12 +52,13 @@ module _ {F : Family} {limit : ℕ} (G : Sound F limit) (u : SetUp) (v : ℕ) (t
   along (other u′ (with-record r) out f ∷ es) fs rec store heard missing came k a =
       along es fs rec (storeOver F limit u′ r store out f) heard missing came (store-keeps G k u′ r out f (a .0)) (a .1)
 
--- for every family that keeps the laws of one, and every limit that is wide enough
-pub demand3-general : Demand3-general
+-- where the history begins, with this channel unheard
+pub kept-first : {F : Family} {limit : ℕ} (u : SetUp) (v count : ℕ) (tail : List ℕ) (ps fs : List (List ℕ)) (rec : Record) (store : List ℕ)
+    → Sends u v count (streamOf tail ps) fs → length (rec .channels) ≡ 8 → length store ≡ limit * 8 → Octets store
+    → recordFollows F limit store rec ≡ true → getD (rec .channels) v freshChannel .heard ≡ false → Kept F limit u v tail ps rec store false 0 [] fs
 unfolding streamOf
-demand3-general F limit G u v count tail ps fs rec store es w s h eight whole octets follows fresh a =
-    along G u v tail ps w h es fs rec store false 0 []
-    (record {
+kept-first u v count tail ps fs rec store s eight whole octets follows fresh =
+    record {
       count = count;
       rest = streamOf tail ps;
       to-come = tail;
@@ -62,13 +67,19 @@ demand3-general F limit G u v count tail ps fs rec store es w s h eight whole oc
       rest-is = refl;
       fine = record { eight = eight; store-whole = whole; octets = octets; follows = follows };
       reads = unheard fresh refl (lost-free (record { done = []; split = refl; place = omega arith; over = inl refl }));
-    })
-    a
+    }
+
+pub fresh-unheard : (v : ℕ) → v < 8 → getD (freshRecord .channels) v freshChannel .heard ≡ false
+fresh-unheard v h = ap (λ (c : Channel). c .heard) (getD-replicate 8 v freshChannel freshChannel h)
+
+-- for every family that keeps the laws of one, and every limit that is wide enough
+pub demand3-general : Demand3-general
+demand3-general F limit G u v count tail ps fs rec store es w s h eight whole octets follows fresh a =
+    along G u v tail ps w h es fs rec store false 0 [] (kept-first u v count tail ps fs rec store s eight whole octets follows fresh) a
 
 pub from-fresh : (F : Family) (limit : ℕ) → Demand3Over F limit → Demand3-freshOver F limit
 from-fresh F limit d u v count tail ps fs store es w s h whole octets a =
-    d u v count tail ps fs freshRecord store es w s h refl whole octets (fresh-follows F limit store)
-    (ap (λ (c : Channel). c .heard) (getD-replicate 8 v freshChannel freshChannel h)) a
+    d u v count tail ps fs freshRecord store es w s h refl whole octets (fresh-follows F limit store) (fresh-unheard v h) a
 
 -- the one instance: source packets of up to 4,096 octets
 pub demand3 : Demand3
@@ -76,3 +87,21 @@ demand3 = demand3-general source most source-sound
 
 pub demand3-fresh : Demand3-fresh
 demand3-fresh = from-fresh source most demand3
+
+-- the whole history: what the calls hand out together
+pub demand3-together-general : Demand3-together-general
+demand3-together-general F limit G u v count tail ps fs rec store es w s h eight whole octets follows fresh a =
+    handed-together F (G .laws) limit u tail ps w fs rec store es
+    (demand3-general F limit G u v count tail ps fs rec store es w s h eight whole octets follows fresh a)
+
+pub demand3-together : Demand3-together
+demand3-together = demand3-together-general source most source-sound
+
+-- from a fresh record
+pub together-fresh : (F : Family) (limit : ℕ) → Sound F limit → Demand3-together-freshOver F limit
+together-fresh F limit G u v count tail ps fs store es w s h whole octets a =
+    handed-together F (G .laws) limit u tail ps w fs freshRecord store es
+    (from-fresh F limit (demand3-general F limit G) u v count tail ps fs store es w s h whole octets a)
+
+pub demand3-together-fresh : Demand3-together-fresh
+demand3-together-fresh = together-fresh source most source-sound

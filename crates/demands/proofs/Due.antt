@@ -56,11 +56,11 @@ not-fourth true false z u v e = refl
 not-fourth false y z u v e = refl
 
 module _ (limit a b : ℕ) (came : List Bool) (s : ℕ) (p : List ℕ) (ps : List (List ℕ)) where
-  early : s + length p ≤ a → lastIn limit a b came s (p ∷ ps) ≡ lastIn limit a b came (s + length p) ps
+  pub early : s + length p ≤ a → lastIn limit a b came s (p ∷ ps) ≡ lastIn limit a b came (s + length p) ps
   unfolding lastIn
   early h = rw (le-ltb a (s + length p) h)
 
-  late : b < s + length p → lastIn limit a b came s (p ∷ ps) ≡ lastIn limit a b came (s + length p) ps
+  pub late : b < s + length p → lastIn limit a b came s (p ∷ ps) ≡ lastIn limit a b came (s + length p) ps
   unfolding lastIn
   late h = not-second (ltb a (s + length p)) (leb (s + length p) b) _ _ _ (lt-leb (s + length p) b h)
 

@@ -8,12 +8,12 @@ use native.Mathlib.Omega.{arith}
 use lib.Dec.{eqb, leb}
 use lib.ListN.{length, length-append, length-replicate}
 use borrow.Author.Tests.{leb-true}
-use Rattle.octets.specs.Numbers.{bitsAt, numberAt, octetsOf}
+use Rattle.octets.specs.Numbers.{octetsOf}
 use Rattle.octets.specs.Pick.{pick}
 use Rattle.octets.proofs.Runs.{length-octets}
 use Rattle.packet.specs.Family.{Whole, AllWhole}
-use Rattle.packet.specs.Size.{sizeOf, totalOf, idleOf, source}
-use Rattle.packet.proofs.Laws.{size-in-words}
+use Rattle.packet.specs.Size.{versionOf, totalOf, idleOf, source}
+use Rattle.packet.proofs.Laws.{size-in-words, in-octets}
 use Rattle.packet.specs.declared.source.Size.the-variants.{Total}
 use Rattle.writer.specs.Laying.{idlePacket, shortIdle}
 use Rattle.demands.specs.Demand2.{fillerFor}
@@ -36,13 +36,13 @@ pub length-idle : (n : ℕ) → 7 ≤ n → length (idlePacket n) ≡ n
 unfolding idlePacket
 length-idle n h = simp (length-append, length-octets, length-replicate) (omega arith)
 
-idle-version : (n : ℕ) → bitsAt (idlePacket n) 0 1 0 3 ≡ 0
-unfolding idlePacket octetsOf bitsAt numberAt
-idle-version n = refl
+idle-version : (n : ℕ) → versionOf (idlePacket n) ≡ 0
+unfolding idlePacket
+idle-version n = in-octets (idlePacket n) .version (omega arith)
 
 idle-total : (n : ℕ) → 7 ≤ n → n ≤ 2042 → totalOf (idlePacket n) ≡ n
-unfolding idlePacket octetsOf numberAt
-idle-total n h i = omega arith
+unfolding idlePacket octetsOf
+idle-total n h i = in-octets (idlePacket n) .total ∙ omega arith
 
 pub idle-whole : (n : ℕ) → 7 ≤ n → n ≤ 2042 → Whole source (idlePacket n)
 idle-whole n h i =
@@ -50,16 +50,14 @@ idle-whole n h i =
     size-in-words (idlePacket n) .six (omega arith) (idle-version n) ∙ ap Total (idle-total n h i ∙ sym l)
 
 pub idle-idle : (n : ℕ) → idleOf (idlePacket n) ≡ true
-unfolding idlePacket octetsOf bitsAt numberAt idleOf
-idle-idle n = refl
+unfolding idlePacket
+idle-idle n = in-octets (idlePacket n) .idle
 
 pub short-whole : Whole source shortIdle
-unfolding sizeOf bitsAt numberAt
-short-whole = refl
+short-whole = size-in-words shortIdle .six (omega arith) (in-octets shortIdle .version (omega arith)) ∙ ap Total (in-octets shortIdle .total)
 
 pub short-idle : idleOf shortIdle ≡ true
-unfolding idleOf bitsAt numberAt
-short-idle = refl
+short-idle = in-octets shortIdle .idle
 
 -- the filler that a call begins
 pub filler-whole : (placed room : ℕ) → room ≤ 2042 → AllWhole source (fillerFor placed room)

@@ -27,7 +27,6 @@ use Rattle.walk.specs.Steps.{Done, courseOf, stepsOf, calledAt}
 use Rattle.walk.specs.Walk.{noTally}
 use Rattle.reader.proofs.Laws.{refused-untouched}
 use Rattle.demands.specs.History.{Harmless, Refuses, Call, brought, carried, mostMissing, wanted, unwanted}
-use Rattle.demands.specs.History.Event.{lost}
 use Rattle.demands.specs.Sender.{Mark, Sent, Sends, octetsIn, firstStart, between, inner, laidOut}
 use Rattle.demands.specs.Sender.Sends.{packets, idle}
 use Rattle.demands.proofs.Calls.{Fine, starts-with, count-lt, read, fine-after, own-after, part-after, carried-none, carried-all, others-keep}

@@ -102,13 +102,13 @@ module _ (placed room : ℕ) (n : placed ≡ 0 → ⊥) where
           wide i (rw (ne-eqb placed 0 n, ne-eqb room 0 z, le-leb 7 room i)) (rw (ne-eqb placed 0 n, le-leb 7 room i))
           (rw (ne-eqb placed 0 n, le-leb 7 room i))
 
-  filler-long : room ≤ length (endToEnd (fillerFor placed room))
+  pub filler-long : length (endToEnd (fillerFor placed room)) ≡ room + leftAfter placed room
   filler-long = go room-of
     where
-      go : Room → room ≤ length (endToEnd (fillerFor placed room))
-      go (none z f l o) = omega arith
-      go (wide h f l o) = rw f (omega (arith, length-append (idlePacket room) [], length-idle room h))
-      go (close h i f l o) = rw f (omega arith)
+      go : Room → length (endToEnd (fillerFor placed room)) ≡ room + leftAfter placed room
+      go (none z f l o) = rw (f, l) (omega arith)
+      go (wide h f l o) = rw (f, l) (omega (arith, length-append (idlePacket room) [], length-idle room h))
+      go (close h i f l o) = rw (f, l) (omega arith)
 
   filler-take : take room (endToEnd (fillerFor placed room)) ≡ fillerOf placed room
   filler-take = go room-of

@@ -1,4 +1,5 @@
 pub mod Aligned
+pub mod AllArrive
 pub mod AllOut
 pub mod Arrives
 pub mod Bench
@@ -7,6 +8,7 @@ pub mod Demand1
 pub mod Demand2
 pub mod Demand3
 pub mod Due
+pub mod Ended
 pub mod FewEnough
 pub mod Field
 pub mod Fillers
@@ -16,6 +18,7 @@ pub mod Hears
 pub mod History
 pub mod Lays
 pub mod Moves
+pub mod NothingGlued
 pub mod OneAnswer
 pub mod Places
 pub mod Reaches
@@ -24,4 +27,5 @@ pub mod Smooth
 pub mod Spot
 pub mod Stream
 pub mod Witness
+pub mod WriterSends
 pub mod Written

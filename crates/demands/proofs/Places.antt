@@ -18,7 +18,7 @@ use Rattle.writer.specs.declared.writing.Answer.the-variants.{Frame}
 use Rattle.writer.specs.declared.writing.Place.{Place}
 use Rattle.writer.proofs.Laws.{written-exactly, goes-on}
 use Rattle.writer.proofs.WritingSteps.{few-left, passed, passing}
-use Rattle.demands.specs.Demand2.{Writing, Fair, NoneRefused}
+use Rattle.demands.specs.Demand2.{Writing, Fair, NoneRefused, placeAfter}
 
 -- what a call at this place passes, whatever output of N octets it is lent
 pub record Writes (u : SetUp) (v : ℕ) (run : List ℕ) (p : Place) : Type 0 where
@@ -76,3 +76,9 @@ module _ {u : SetUp} {v : ℕ} {run : List ℕ} {p : Place} (s : Writes u v run 
 pub none-refused : {u : SetUp} {v : ℕ} {run : List ℕ} (cs : List Writing) (p : Place) → Writes u v run p → Fair u cs → NoneRefused u v run p cs
 none-refused [] p s f = tt
 none-refused (c ∷ cs) p s f = (answers s (c .word) (c .out) (f .0), none-refused cs _ (next-writes s (c .word) (c .out) (f .0)) (f .2))
+
+pub writes-after : {u : SetUp} {v : ℕ} {run : List ℕ} (cs : List Writing) (p : Place) → Writes u v run p → Fair u cs
+    → Writes u v run (placeAfter u v run p cs)
+unfolding placeAfter
+writes-after [] p s f = s
+writes-after (c ∷ cs) p s f = writes-after cs _ (next-writes s (c .word) (c .out) (f .0)) (f .2)

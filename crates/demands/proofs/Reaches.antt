@@ -1,5 +1,5 @@
--- How far the writer's calls come: the offset never goes back, each call before the run's end comes on by at least one octet, and the frames
--- carry the left-over and the run as far as the offset has come.
+-- How far the writer's calls come: the offset never goes back, each call before the run's end comes on by at least one octet, and the
+-- octets that the frames carry balance with those of the left-over, the run and the fillers.
 -- Assumes nothing.
 use mathlib.Core.Path.{_≡_, refl, _∙_, ap}
 use mathlib.Core.Bool.{Bool, true, false}
@@ -9,7 +9,10 @@ use Prim.Native.Nat.{ℕ, _+_, _-_, _≤_, _<_, _^_, min}
 use native.Mathlib.Decide.{ℕ-discrete}
 use native.Mathlib.Omega.{arith}
 use lib.ListN.{length}
+use borrow.Author.Tests.{eq-eqb}
 use Rattle.packet.specs.Chain.{distanceOf}
+use Rattle.packet.specs.Family.{Octets}
+use Rattle.packet.specs.Theorems.{endToEnd}
 use Rattle.frame.specs.Closing.{closeSize}
 use Rattle.frame.specs.Theorems.{wordNumber}
 use Rattle.frame.specs.declared.closing.ControlWord.{ControlWord}
@@ -19,15 +22,21 @@ use Rattle.writer.specs.Writing.{nextOf, nextPlace, outputOf, frameWritten}
 use Rattle.writer.specs.declared.writing.Place.{Place}
 use Rattle.writer.proofs.Laws.{laid-well}
 use Rattle.writer.proofs.LayingLaws.{length-left, length-run, length-placed, none-after}
-use Rattle.demands.specs.Demand2.{Writing, Fair, frames, placeAfter}
+use Rattle.demands.specs.Demand2.{Writing, Fair, fillerFor, fillers, frames, placeAfter}
 use Rattle.demands.specs.History.{carried}
-use Rattle.packet.specs.Family.{Octets}
-use Rattle.demands.proofs.AllOut.{total, total-more}
-use Rattle.demands.proofs.Calls.{carried-all}
+use Rattle.demands.proofs.AllArrive.{total, total-none, total-more}
+use Rattle.demands.proofs.Calls.{carried-none, carried-all}
 use Rattle.demands.proofs.Hears.{not-idle}
+use Rattle.demands.proofs.Lays.{filler-idle-frame, filler-long}
 use Rattle.demands.proofs.Places.{Writes, few, answers, next-is, output-is, next-writes}
-use Rattle.demands.proofs.Sending.{pointer-some, nothing-says, size-most}
+use Rattle.demands.proofs.Sending.{pointer-nothing, pointer-some, nothing-says, some-placed, none-placed, size-most}
+use Rattle.demands.proofs.Stream.{length-end}
 use Rattle.demands.proofs.Written.{openedTo, sent}
+
+-- the octets of a stretch of calls balance, from offset o with l octets left over to o′ with l′: c are carried, and g are of fillers that were
+-- begun; and what is left over at its end is of these if anything of the run was placed
+abbrev pub Balance : ℕ → ℕ → ℕ → ℕ → ℕ → ℕ → Type 0
+Balance o l c g o′ l′ = (l + g + o′ ≡ c + l′ + o) × ((o′ ≡ o) ⊎ (l′ ≤ g))
 
 -- one call, in numbers: from offset o with l octets left over of a run of k octets, a field of D octets takes a of the left-over and b of the
 -- run, n in all, and the filler leaves `over`
@@ -78,30 +87,47 @@ module _ {D k o l a b n over o′ l′ : ℕ} (t : Turn D k o l a b n over o′ 
       comes-plain : (k o l a b o′ l′ : ℕ) → o′ ≤ k → o′ ≡ o + b → l′ ≡ l - a → a ≤ l → 1 ≤ a + b → l′ + (k - o′) + 1 ≤ l + (k - o)
       comes-plain k o l a b o′ l′ w e d i g = omega arith
 
-  -- c octets are carried: D, or none if nothing is placed
-  reaches : (c E T : ℕ) → (c ≡ D) ⊎ ((l ≡ 0) × (b ≡ 0)) → (E ≡ o′) ⊎ (l′ + E ≤ T + o′) → (E ≡ o) ⊎ (l + E ≤ c + T + o)
-  reaches c E T (inl e) r = go (ℕ-discrete b 0) r
+  -- c octets are carried and a filler of g octets is begun, or nothing at all
+  balance : (c g : ℕ) → ((c ≡ D) × (g ≡ D - n + over)) ⊎ ((c ≡ 0) × (l ≡ 0) × (n ≡ 0) × (g ≡ 0) × (over ≡ 0))
+      → Balance o l c g o′ l′
+  balance c g (inr (ec, el, en, eg, eo)) =
+      let i = t .in-all in
+      let y = t .next-offset in
+      let x = t .next-left in
+      (omega arith, inl (omega arith))
+  balance c g (inl (ec, eg)) =
+      let i = t .in-all in
+      let y = t .next-offset in
+      let x = t .next-left in
+      let k : a ≤ l = omega (arith, t .of-left) in
+      let m : n ≤ D = room in
+      (omega arith, go (ℕ-discrete b 0))
     where
-      less : l ≤ D + l′
-      less =
-          let i : l ≤ D + (l - a) = let y : a ≤ D = omega (arith, t .of-left) in omega arith in
-          omega (arith, t .next-left)
+      room : n ≤ D
+      room = let y : a ≤ D = omega (arith, t .of-left) in let x : b ≤ D - a = omega (arith, t .of-run) in omega (arith, t .in-all)
 
-      room : (b ≡ 0 → ⊥) → l + b ≤ D
-      room z =
+      go : Dec (b ≡ 0) → (o′ ≡ o) ⊎ (l′ ≤ g)
+      go (yes z) = inl (omega (arith, t .next-offset))
+      go (no z) =
           let r = t .of-run in
           let y : 1 ≤ D - a = omega arith in
           let x : a ≡ l = let w = t .of-left in omega arith in
-          let w : b ≤ D - a = omega arith in
-          omega arith
+          inr (let q = t .next-left in omega arith)
 
-      go : Dec (b ≡ 0) → (E ≡ o′) ⊎ (l′ + E ≤ T + o′) → (E ≡ o) ⊎ (l + E ≤ c + T + o)
-      go (yes z) (inl q) = inl (omega (arith, t .next-offset))
-      go (yes z) (inr q) = inr (let y = t .next-offset in let x = less in omega arith)
-      go (no z) (inl q) = inr (let y = t .next-offset in let x = room z in omega arith)
-      go (no z) (inr q) = inr (let y = t .next-offset in let x = room z in omega arith)
-  reaches c E T (inr e) (inl q) = inl (let y = t .next-offset in omega arith)
-  reaches c E T (inr e) (inr q) = inr (let y = t .next-offset in omega arith)
+-- two stretches one behind the other
+both-balance : (o l o′ l′ o″ l″ c T g G : ℕ) → Balance o l c g o′ l′ → Balance o′ l′ T G o″ l″ → Balance o l (c + T) (g + G) o″ l″
+both-balance o l o′ l′ o″ l″ c T g G (e, first) (e′, second) = (omega arith, go first second)
+  where
+    go : (o′ ≡ o) ⊎ (l′ ≤ g) → (o″ ≡ o′) ⊎ (l″ ≤ G) → (o″ ≡ o) ⊎ (l″ ≤ g + G)
+    go first (inr h) = inr (omega arith)
+    go (inl h) (inl i) = inl (omega arith)
+    go (inr h) (inl i) = inr (omega arith)
+
+-- the filler that a call begins
+abbrev begun : SetUp → ControlWord → List ℕ → Place → List (List ℕ)
+begun u w run p =
+    fillerFor (length (placedPart (closeSize u w) run (p .offset) (p .«left_over»)))
+    (closeSize u w - length (placedPart (closeSize u w) run (p .offset) (p .«left_over»)))
 
 -- one call
 module _ {u : SetUp} {v : ℕ} {run : List ℕ} {p : Place} (s : Writes u v run p) (w : ControlWord) (out : List ℕ) (e : length out ≡ u .length) where
@@ -132,25 +158,39 @@ module _ {u : SetUp} {v : ℕ} {run : List ℕ} {p : Place} (s : Writes u v run 
   turn = rw (next-is s w out e) turn-place
 
   carries : Octets run → wordNumber w < 2 ^ 32
-      → (carried u (outputOf u v p w run out) ≡ closeSize u w)
-      ⊎ ((p .«left_over» ≡ 0) × (length (runPart (closeSize u w) run (p .offset) (p .«left_over»)) ≡ 0))
-  carries real small = go (nothingOf run (p .offset) (p .«left_over»)) refl
+      → Balance (p .offset) (p .«left_over») (carried u (outputOf u v p w run out)) (length (endToEnd (begun u w run p)))
+      (nextOf u v p w run out .offset) (nextOf u v p w run out .«left_over»)
+  unfolding leftAfter
+  carries real small =
+      balance turn (carried u (outputOf u v p w run out)) (length (endToEnd (begun u w run p))) (go (nothingOf run (p .offset) (p .«left_over»)) refl)
     where
+      n : ℕ
+      n = length (placedPart (closeSize u w) run (p .offset) (p .«left_over»))
+
       go : (b : Bool) → nothingOf run (p .offset) (p .«left_over») ≡ b
-          → (carried u (outputOf u v p w run out) ≡ closeSize u w)
-          ⊎ ((p .«left_over» ≡ 0) × (length (runPart (closeSize u w) run (p .offset) (p .«left_over»)) ≡ 0))
+          → ((carried u (outputOf u v p w run out) ≡ closeSize u w) × (length (endToEnd (begun u w run p)) ≡ closeSize u w - n + leftAfter n (closeSize u w - n)))
+          ⊎ ((carried u (outputOf u v p w run out) ≡ 0) × (p .«left_over» ≡ 0) × (n ≡ 0) × (length (endToEnd (begun u w run p)) ≡ 0)
+          × (leftAfter n (closeSize u w - n) ≡ 0))
       go true z =
-          let y = nothing-says run (p .offset) (p .«left_over») z in
-          let r = length-run (closeSize u w) run (p .offset) (p .«left_over») in
-          let k : length run - p .offset ≡ 0 = omega arith in
-          inr (y .0, omega arith)
+          let o = sent s real w out e small .opens in
+          let none = none-placed s w out e z in
+          inr (
+            ap (carried u) (output-is s w out e)
+                ∙ carried-none u (frameWritten u v p w run) (openedTo u v p w run) o (pointer-nothing (closeSize u w) _ (p .«left_over») _ z),
+            nothing-says run (p .offset) (p .«left_over») z .0,
+            none,
+            ap (λ (x : List (List ℕ)). length (endToEnd x)) (filler-idle-frame n (closeSize u w - n) none),
+            rw (eq-eqb n 0 none),
+          )
       go false z =
           let o = sent s real w out e small .opens in
-          inl
-          (ap (carried u) (output-is s w out e)
-          ∙ carried-all u (frameWritten u v p w run) (openedTo u v p w run) o
-          (not-idle (closeSize u w) (p .«left_over» + distanceOf run (p .offset)) _ (size-most u w (s .fits))
-          (pointer-some (closeSize u w) (distanceOf run (p .offset)) (p .«left_over») _ z)))
+          inl (
+            ap (carried u) (output-is s w out e)
+                ∙ carried-all u (frameWritten u v p w run) (openedTo u v p w run) o
+                (not-idle (closeSize u w) (p .«left_over» + distanceOf run (p .offset)) _ (size-most u w (s .fits))
+                (pointer-some (closeSize u w) (distanceOf run (p .offset)) (p .«left_over») _ z)),
+            filler-long n (closeSize u w - n) (some-placed s w out e z),
+          )
 
 -- all calls
 module _ {u : SetUp} {v : ℕ} {run : List ℕ} where
@@ -182,15 +222,14 @@ module _ {u : SetUp} {v : ℕ} {run : List ℕ} where
       go (yes z) on b = omega arith
       go (no z) on b = on z
 
+  -- the octets of all calls balance
   pub carries-all : Octets run → (cs : List Writing) (p : Place) → Writes u v run p → Fair u cs
-      → (placeAfter u v run p cs .offset ≡ p .offset)
-      ⊎ (p .«left_over» + placeAfter u v run p cs .offset ≤ total u (frames u v run p cs) + p .offset)
-  unfolding placeAfter frames
-  carries-all real [] p s f = inl refl
+      → Balance (p .offset) (p .«left_over») (total u (frames u v run p cs)) (length (endToEnd (fillers u v run p cs)))
+      (placeAfter u v run p cs .offset) (placeAfter u v run p cs .«left_over»)
+  unfolding placeAfter frames fillers
+  carries-all real [] p s f = (rw (total-none u) (omega arith), inl refl)
   carries-all real (c ∷ cs) p s f =
-      let t = turn s (c .word) (c .out) (f .0) in
       let q = nextOf u v p (c .word) run (c .out) in
-      rw (total-more u (outputOf u v p (c .word) run (c .out)) (frames u v run q cs))
-      (reaches t (carried u (outputOf u v p (c .word) run (c .out))) (placeAfter u v run q cs .offset) (total u (frames u v run q cs))
-      (carries s (c .word) (c .out) (f .0) real (f .1))
+      rw (total-more u (outputOf u v p (c .word) run (c .out)) (frames u v run q cs), length-end (begun u (c .word) run p) (fillers u v run q cs))
+      (both-balance _ _ (q .offset) (q .«left_over») _ _ _ _ _ _ (carries s (c .word) (c .out) (f .0) real (f .1))
       (carries-all real cs q (next-writes s (c .word) (c .out) (f .0)) (f .2)))

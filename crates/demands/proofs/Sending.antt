@@ -1,4 +1,5 @@
--- The frames that the writer gives, call after call, are the sender's: the left-over as tail, the packets of the run, then the fillers.
+-- The frames that the writer gives, call after call, are the sender's: the left-over as tail, the packets of the run, the fillers, and then
+-- what is sent behind the run.
 -- Assumes nothing.
 use mathlib.Core.Path.{_≡_, refl, _∙_, sym, ap, ap₂, subst}
 use mathlib.Core.Bool.{Bool, true, false, false≢true}
@@ -21,7 +22,7 @@ use Rattle.frame.specs.SetUp.{fitsOf}
 use Rattle.frame.specs.Theorems.{wordNumber}
 use Rattle.frame.specs.declared.closing.ControlWord.{ControlWord}
 use Rattle.frame.specs.declared.set_up.SetUp.{SetUp}
-use Rattle.frame.proofs.SetUpLaws.{in-range}
+use Rattle.frame.proofs.ClosingLaws.{sizes}
 use Rattle.channel.proofs.RuleLaws.{both}
 use Rattle.walk.specs.Steps.{calledAt}
 use Rattle.writer.specs.Laying.{shortIdle, runPart, placedPart, leftAfter, leftOverAfter, nothingOf, pointerOf}
@@ -29,9 +30,9 @@ use Rattle.writer.specs.Writing.{nextOf, nextPlace, outputOf, frameWritten}
 use Rattle.writer.specs.declared.writing.Place.{Place}
 use Rattle.writer.proofs.Laws.{laid-well}
 use Rattle.writer.proofs.LayingLaws.{length-placed}
-use Rattle.demands.specs.Demand2.{Writing, Fair, frames, fillers, fillerFor}
+use Rattle.demands.specs.Demand2.{Writing, Fair, frames, fillers, fillerFor, placeAfter}
 use Rattle.demands.specs.Sender.{Mark, Sends, inner, marksOf, laidOut, firstStart, between}
-use Rattle.demands.specs.Sender.Sends.{no-more, packets, idle}
+use Rattle.demands.specs.Sender.Sends.{packets, idle}
 use Rattle.demands.proofs.Field.{drop-exact, drop-midst}
 use Rattle.demands.proofs.Fillers.{AllIdle, idle-append, whole-append, filler-whole, filler-idle}
 use Rattle.demands.proofs.Lays.{toSend, length-tail, filler-idle-frame, sends-long, sends-field, sends-later}
@@ -105,7 +106,7 @@ pointer-first ps qs offset left D w v h few long =
     ∙ ap (calledAt D) l)
 
 -- the pointer as laid
-pointer-nothing : (D distance left : ℕ) (b : Bool) → b ≡ true → pointerOf D distance left b ≡ idleData
+pub pointer-nothing : (D distance left : ℕ) (b : Bool) → b ≡ true → pointerOf D distance left b ≡ idleData
 unfolding pointerOf
 pointer-nothing D distance left b e = rw e
 
@@ -114,8 +115,7 @@ unfolding pointerOf calledAt
 pointer-some D distance left b e = rw e
 
 pub size-most : (u : SetUp) (w : ControlWord) → fitsOf u ≡ true → closeSize u w ≤ 2042
-unfolding closeSize
-size-most u w e = let r = in-range u e in omega arith
+size-most u w e = sizes u w e .most
 
 -- fillers are whole and idle
 pub fillers-whole : (u : SetUp) (v : ℕ) (run : List ℕ) → fitsOf u ≡ true → (cs : List Writing) (p : Place) → AllWhole source (fillers u v run p cs)
@@ -150,12 +150,24 @@ unfolding leftOverAfter leftAfter
 none-left D run offset left e z =
     rw (eq-eqb (length (placedPart D run offset left)) 0 z) (omega arith)
 
--- at the run's end with no left-over the fillers alone are to be sent
+-- at the run's end the left-over is to be sent, then what follows the run; with no left-over that alone
+pub past-run : (ps fs : List (List ℕ)) (offset left : ℕ) → offset ≡ length (endToEnd ps)
+    → toSend ps offset left fs ≡ inner (drop (7 - left) shortIdle) ++ laidOut fs
+past-run ps fs offset left h =
+    let z : drop offset (laidOut ps) ≡ [] = drop-of-length-le (laidOut ps) {i = offset} (omega (arith, length-laid ps)) in
+    rw z
+
 at-end : (ps fs : List (List ℕ)) (offset left : ℕ) → left ≡ 0 → offset ≡ length (endToEnd ps) → toSend ps offset left fs ≡ laidOut fs
 unfolding inner
-at-end ps fs offset left e h =
-    let z : drop offset (laidOut ps) ≡ [] = drop-of-length-le (laidOut ps) {i = offset} (omega (arith, length-laid ps)) in
-    rw (e, z)
+at-end ps fs offset left e h = past-run ps fs offset left h ∙ rw e
+
+-- whether a call places anything
+module _ {u : SetUp} {v : ℕ} {run : List ℕ} {p : Place} (s : Writes u v run p) (w : ControlWord) (out : List ℕ) (e : length out ≡ u .length) where
+  pub some-placed : nothingOf run (p .offset) (p .«left_over») ≡ false → length (placedPart (closeSize u w) run (p .offset) (p .«left_over»)) ≡ 0 → ⊥
+  some-placed z y = false≢true (sym z ∙ laid-well u v p w run out (answers s w out e) .nothing .1 (nothing-in _ y))
+
+  pub none-placed : nothingOf run (p .offset) (p .«left_over») ≡ true → length (placedPart (closeSize u w) run (p .offset) (p .«left_over»)) ≡ 0
+  none-placed z = ap length (laid-well u v p w run out (answers s w out e) .nothing .0 z)
 
 -- what is to be sent at a place, and at the next
 abbrev now : SetUp → List (List ℕ) → Place → ControlWord → List (List ℕ) → List Mark
@@ -177,8 +189,7 @@ module _ {u : SetUp} {v : ℕ} (ps : List (List ℕ)) {p : Place} (s : Writes u 
       → Sends u v (p .count .0) (now u ps p w fs) (frameWritten u v p w (endToEnd ps) ∷ fr)
   step-packets z on =
       let n = length (placedPart (closeSize u w) (endToEnd ps) (p .offset) (p .«left_over»)) in
-      let a = laid-well u v p w (endToEnd ps) out (answers s w out e) in
-      let some : n ≡ 0 → ⊥ = λ y. false≢true (sym z ∙ a .nothing .1 (nothing-in _ y)) in
+      let some = some-placed s w out e z in
       let f = fillerFor n (closeSize u w - n) in
       let long = sends-long ps (p .offset) (p .«left_over») (closeSize u w) (few s) (s .inside) some fs in
       packets (p .count .0) _ (frameWritten u v p w (endToEnd ps)) fr (openedTo u v p w (endToEnd ps)) (sent s real w out e small) long
@@ -192,8 +203,7 @@ module _ {u : SetUp} {v : ℕ} (ps : List (List ℕ)) {p : Place} (s : Writes u 
       → Sends u v (p .count .0) (now u ps p w fs) (frameWritten u v p w (endToEnd ps) ∷ fr)
   step-idle z on =
       let n = length (placedPart (closeSize u w) (endToEnd ps) (p .offset) (p .«left_over»)) in
-      let a = laid-well u v p w (endToEnd ps) out (answers s w out e) in
-      let none : n ≡ 0 = ap length (a .nothing .0 z) in
+      let none = none-placed s w out e z in
       let y = nothing-says (endToEnd ps) (p .offset) (p .«left_over») z in
       let l = none-left (closeSize u w) (endToEnd ps) (p .offset) (p .«left_over») (y .0) none in
       let r : p .offset + length (runPart (closeSize u w) (endToEnd ps) (p .offset) (p .«left_over»)) ≡ length (endToEnd ps) =
@@ -220,13 +230,17 @@ module _ {u : SetUp} {v : ℕ} (ps : List (List ℕ)) {p : Place} (s : Writes u 
       let at : Place → Type 0 = λ q. Sends u v (q .count .0) (toSend ps (q .offset) (q .«left_over») fs) fr in
       rw (output-is s w out e) (step (subst at (next-is s w out e) on))
 
--- all calls
-pub sends : (u : SetUp) (v : ℕ) (ps : List (List ℕ)) → AllWhole source ps → Octets (endToEnd ps) → (cs : List Writing) (p : Place)
-    → Writes u v (endToEnd ps) p → Fair u cs
-    → Sends u v (p .count .0) (toSend ps (p .offset) (p .«left_over») (fillers u v (endToEnd ps) p cs)) (frames u v (endToEnd ps) p cs)
-unfolding frames fillers
-sends u v ps whole real [] p s f = no-more _ _
-sends u v ps whole real (c ∷ cs) p s f =
+-- all calls, with what is sent behind them
+pub sends : (u : SetUp) (v : ℕ) (ps : List (List ℕ)) → AllWhole source ps → Octets (endToEnd ps) → (more fr : List (List ℕ)) → AllWhole source more
+    → (cs : List Writing) (p : Place) → Writes u v (endToEnd ps) p → Fair u cs
+    → Sends u v (placeAfter u v (endToEnd ps) p cs .count .0)
+    (toSend ps (placeAfter u v (endToEnd ps) p cs .offset) (placeAfter u v (endToEnd ps) p cs .«left_over») more) fr
+    → Sends u v (p .count .0) (toSend ps (p .offset) (p .«left_over») (fillers u v (endToEnd ps) p cs ++ more)) (frames u v (endToEnd ps) p cs ++ fr)
+unfolding frames fillers placeAfter
+sends u v ps whole real more fr w [] p s f on = on
+sends u v ps whole real more fr w (c ∷ cs) p s f on =
     let q = nextOf u v p (c .word) (endToEnd ps) (c .out) in
-    call ps s whole real (c .word) (c .out) (f .0) (f .1) (fillers u v (endToEnd ps) q cs) (frames u v (endToEnd ps) q cs)
-    (fillers-whole u v (endToEnd ps) (s .fits) cs q) (sends u v ps whole real cs q (next-writes s (c .word) (c .out) (f .0)) (f .2))
+    rw append-assoc
+    (call ps s whole real (c .word) (c .out) (f .0) (f .1) (fillers u v (endToEnd ps) q cs ++ more) (frames u v (endToEnd ps) q cs ++ fr)
+    (whole-append (fillers u v (endToEnd ps) q cs) more (fillers-whole u v (endToEnd ps) (s .fits) cs q) w)
+    (sends u v ps whole real more fr w cs q (next-writes s (c .word) (c .out) (f .0)) (f .2) on))

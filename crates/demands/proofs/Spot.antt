@@ -16,7 +16,7 @@ use Rattle.walk.specs.Theorems.{Sound}
 use Rattle.demands.specs.History.{allArrived, lastIn}
 use Rattle.demands.proofs.Aligned.{AllFit}
 use Rattle.demands.proofs.Due.{arrived-append, all-came, none-came, take-same, long, gone, due, late-all, late-first, early-all, due-all}
-use Rattle.demands.proofs.Stream.{end-append, whole-right}
+use Rattle.demands.proofs.Stream.{length-end, whole-right}
 
 -- the packets `behind` begin where the octets sent so far and q, which is to come, end
 pub record Spot (tail : List ℕ) (ps : List (List ℕ)) (came : List Bool) (q : List ℕ) (behind : List (List ℕ)) : Type 0 where
@@ -46,9 +46,6 @@ pub record Inside (tail : List ℕ) (ps : List (List ℕ)) (came : List Bool) (b
 
 longer : (came : List Bool) (D : ℕ) (c : Bool) → length (came ++ replicate D c) ≡ length came + D
 longer came D c = length-append came (replicate D c) ∙ ap (λ (n : ℕ). length came + n) (length-replicate D c)
-
-longer-end : (a b : List (List ℕ)) → length (endToEnd (a ++ b)) ≡ length (endToEnd a) + length (endToEnd b)
-longer-end a b = ap length (end-append a b) ∙ length-append (endToEnd a) (endToEnd b)
 
 all-same : (n : ℕ) (c : Bool) → 1 ≤ n → allArrived (replicate n c) ≡ c
 all-same n true h = all-came n
@@ -81,7 +78,7 @@ module _ {tail : List ℕ} {ps : List (List ℕ)} {came : List Bool} {q : List �
   inside-spot {begun} s =
       let p : List ℕ = begun ++ q in
       let l : length (endToEnd (s .done ++ p ∷ [])) ≡ length (endToEnd (s .done)) + length p =
-      longer-end (s .done) (p ∷ []) ∙ ap (λ (x : List ℕ). length (endToEnd (s .done)) + length x) (append-nil p) in
+      length-end (s .done) (p ∷ []) ∙ ap (λ (x : List ℕ). length (endToEnd (s .done)) + length x) (append-nil p) in
       let c : length came ≡ length (s .pre) + length (s .mid) = ap length (s .came-is) ∙ length-append (s .pre) (s .mid) in
       record {
         done = s .done ++ p ∷ [];
@@ -133,7 +130,7 @@ module _ {tail : List ℕ} {ps : List (List ℕ)} {came : List Bool} {q : List �
       record {
         done = s .done ++ ws;
         split = s .split ∙ ap (λ (x : List (List ℕ)). s .done ++ x) e ∙ sym (append-assoc (s .done) ws behind′);
-        place = omega (arith, longer came D c, longer-end (s .done) ws, s .place);
+        place = omega (arith, longer came D c, length-end (s .done) ws, s .place);
         over = inr refl;
       }
 
@@ -150,7 +147,7 @@ module _ {tail : List ℕ} {ps : List (List ℕ)} {came : List Bool} {q : List �
         came-is =
             ap (λ (x : List Bool). came ++ x) (ap (λ (m : ℕ). replicate m c) d ∙ sym (replicate-append-replicate n (length begun) c))
             ∙ sym (append-assoc came (replicate n c) (replicate (length begun) c));
-        place = omega (arith, longer came n c, longer-end (s .done) ws, s .place);
+        place = omega (arith, longer came n c, length-end (s .done) ws, s .place);
         as-many = length-replicate (length begun) c;
         arrived = all-same (length begun) c h;
         some = h;

@@ -70,6 +70,9 @@ pub end-append : (a b : List (List ℕ)) → endToEnd (a ++ b) ≡ endToEnd a ++
 end-append [] b = refl
 end-append (p ∷ a) b = ap (λ (l : List ℕ). p ++ l) (end-append a b) ∙ sym (append-assoc p (endToEnd a) (endToEnd b))
 
+pub length-end : (a b : List (List ℕ)) → length (endToEnd (a ++ b)) ≡ length (endToEnd a) + length (endToEnd b)
+length-end a b = ap length (end-append a b) ∙ length-append (endToEnd a) (endToEnd b)
+
 pub laid-append : (a b : List (List ℕ)) → laidOut (a ++ b) ≡ laidOut a ++ laidOut b
 unfolding laidOut
 laid-append [] b = refl

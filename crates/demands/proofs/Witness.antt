@@ -17,7 +17,7 @@ use Rattle.packet.specs.Family.{Octets, AllWhole}
 use Rattle.packet.specs.Size.{most, sizeOf, idleOf, source}
 use Rattle.frame.specs.Counts.{after}
 use Rattle.frame.specs.Header.{headerOf}
-use Rattle.frame.specs.Opening.{openOf, openFrom, openTable, frameOf, secondarySize, dataSize, wordOf, row1, row5, row6, row7, row8, row9, row10, row11, row12}
+use Rattle.frame.specs.Opening.{openOf, openFrom, openTable, frameTable, frameOf, secondarySize, dataSize, wordOf, row1, row5, row6, row7, row8, row9, row10, row11, row12}
 use Rattle.frame.specs.SetUp.{fitsOf, mostLength}
 use Rattle.frame.specs.Table.{firstCause}
 use Rattle.frame.specs.declared.opening.Opened.{Opened}
@@ -28,12 +28,11 @@ use Rattle.channel.specs.declared.state.Record.{Record}
 use Rattle.channel.proofs.Laws.{fresh-follows}
 use Rattle.channel.proofs.RuleLaws.{both}
 use Rattle.reader.specs.Reading.{answerOver, recordOf, storeOf, readTableOver, reportOf, channelOf, doneBy}
-use Rattle.reader.specs.declared.reading.Answer.the-variants.{Accepted}
 use Rattle.reader.specs.declared.reading.Refusal.the-variants.{OfFrame, OutputLength, StoreLength}
 use Rattle.demands.specs.History.{Harmless, Refuses, Allowed, Delivers, lastIn, allArrived, wanted, unwanted}
 use Rattle.demands.specs.Sender.{Mark, Sent, Sends, streamOf, inner, marksOf, laidOut, octetsIn, firstStart, between}
 use Rattle.demands.specs.Sender.Sends.{no-more, packets, idle}
-use Rattle.demands.specs.Witness.{ours, theirs, earlier, first, second, fourth, fifth, sixth, laidPackets, frame1, frame2, frame3, frame4, frame5, frame6, frame7, frames, elsewhere, history, broughtIn, outputsOf, dueTable, idleTable, Witness, Demand3-met}
+use Rattle.demands.specs.Witness.{ours, theirs, earlier, first, second, fourth, fifth, sixth, laidPackets, frame1, frame2, frame3, frame4, frame5, frame6, frame7, frames, elsewhere, history, broughtIn, outputsOf, dueTable, idleTable, Demand3-met}
 use Rattle.demands.proofs.Calls.{Fine, fine-after, others-keep, read}
 use Rattle.walk.proofs.SourceLaws.{source-sound}
 use Rattle.demands.proofs.Demand3.{demand3-fresh}
@@ -64,7 +63,7 @@ unfolding sizeOf bitsAt numberAt
 all-whole = (refl, (refl, (refl, (refl, (refl, (refl, (refl, tt)))))))
 
 sends-all : Sends ours 3 254 (streamOf earlier laidPackets) frames
-unfolding below openFrom openTable frameOf firstCause row1 row5 row6 row7 row8 row9 row10 row11 row12 fitsOf headerOf secondarySize dataSize wordOf bitsAt numberAt after streamOf inner marksOf laidOut octetsIn firstStart between
+unfolding below openFrom openTable frameTable frameOf firstCause row1 row5 row6 row7 row8 row9 row10 row11 row12 fitsOf headerOf secondarySize dataSize wordOf bitsAt numberAt after streamOf inner marksOf laidOut octetsIn firstStart between
 sends-all =
     let all : List Mark = streamOf earlier laidPackets in
     packets 254 all frame1 _ (frameOf ours frame1) (sent frame1 254 refl refl refl refl refl) (omega arith) refl refl
@@ -84,7 +83,7 @@ arrived f rec store out o e k r = fine-after source-sound ours rec store out f (
 -- the calls in between: accepted on channel 5; refused by test 3; refused by test 8
 module _ (rec : Record) (store out : List ℕ) (k : Fine source most rec store) where
   elsewhere-harmless : most + mostLength ≤ length out → Harmless source most 3 ours rec store out elsewhere
-  unfolding openFrom openTable frameOf firstCause row1 row5 row6 row7 row8 row9 row10 row11 row12 fitsOf headerOf secondarySize dataSize wordOf bitsAt numberAt reportOf
+  unfolding openFrom openTable frameTable frameOf firstCause row1 row5 row6 row7 row8 row9 row10 row11 row12 fitsOf headerOf secondarySize dataSize wordOf bitsAt numberAt reportOf
   elsewhere-harmless r =
       let x = frameOf ours elsewhere in
       inr (
@@ -97,7 +96,7 @@ module _ (rec : Record) (store out : List ℕ) (k : Fine source most rec store) 
   short-harmless h = inl (OutputLength, rw (k .store-whole, lt-leb 6144 (length out) h))
 
   theirs-harmless : most + mostLength ≤ length out → Harmless source most 3 theirs rec store out frame6
-  unfolding answerOver readTableOver openTable firstCause row1 row5 row6 row7 row8 fitsOf headerOf bitsAt numberAt storeFits outputFits
+  unfolding answerOver readTableOver frameTable firstCause row1 row5 row6 row7 row8 fitsOf headerOf bitsAt numberAt storeFits outputFits
   theirs-harmless r = inl (OfFrame OtherSpacecraft, rw (k .store-whole, le-leb 6144 (length out) r, k .follows))
 
 -- refused by test 2
@@ -116,7 +115,7 @@ is-idle out short store′ = refl
 module _ (store : List ℕ) (out : ℕ → List ℕ) (short store′ : List ℕ) (length-is : length store ≡ 32768) (octets : Octets store)
     (room : (i : ℕ) → 6144 ≤ length (out i)) (too-short : length short < 6144) (not-whole : length store′ ≡ 32768 → ⊥) where
   is-allowed : Allowed source most ours 3 freshRecord store false 0 frames (history out short store′)
-  unfolding below openFrom openTable frameOf firstCause row1 row5 row6 row7 row8 row9 row10 row11 row12 fitsOf headerOf secondarySize dataSize wordOf bitsAt numberAt storeFits
+  unfolding below openFrom openTable frameTable frameOf firstCause row1 row5 row6 row7 row8 row9 row10 row11 row12 fitsOf headerOf secondarySize dataSize wordOf bitsAt numberAt storeFits
   is-allowed =
       let k₀ : Fine source most freshRecord store = record { eight = refl; store-whole = length-is; octets = octets; follows = fresh-follows source most store } in
       let k₁ = arrived frame1 freshRecord store (out 1) refl refl k₀ (room 1) in

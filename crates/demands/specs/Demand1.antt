@@ -19,5 +19,7 @@ pub record Demand1 : Type 0 where
   -- the frame part by itself: opening and closing
   pub opening-numbers : frame.Number-exactly
   pub opening-accepts : frame.Accepted-exactly
+  pub opening-zero : frame.Refused-zero
   pub closing-numbers : frame.Close-exactly
+  pub closing-writes : frame.Close-written
   pub closing-untouched : frame.Close-untouched

@@ -1,13 +1,12 @@
 -- Demand 2: frames that are written from a run of packets read back, in order and from a fresh record, to exactly the packets of the run that
 -- are not idle and have at most 4,096 octets. The proof is in proofs/Demand2.antt.
 use mathlib.Core.Path.{_≡_}
-use mathlib.Core.Bool.{Bool, true}
+use mathlib.Core.Bool.{true}
 use mathlib.Core.List.{List, [], _∷_, _++_, map}
-use Prim.Native.Nat.{ℕ, zero, suc, _+_, _-_, _*_, _^_, _≤_, _<_}
+use Prim.Native.Nat.{ℕ, _+_, _-_, _*_, _^_, _≤_, _<_}
 use lib.Dec.{eqb, leb}
-use lib.ListN.{length, take, drop}
+use lib.ListN.{length, drop}
 use Rattle.octets.specs.Pick.{pick}
-use Rattle.packet.specs.Chain.{frontOf}
 use Rattle.packet.specs.Family.{Family, Octets, AllWhole}
 use Rattle.packet.specs.Size.{least, most, source}
 use Rattle.packet.specs.Theorems.{endToEnd}
@@ -19,15 +18,14 @@ use Rattle.frame.specs.declared.set_up.SetUp.{SetUp}
 use Rattle.channel.specs.State.{freshRecord}
 use Rattle.channel.specs.declared.state.Record.{Record}
 use Rattle.reader.specs.Reading as read
-use Rattle.reader.specs.declared.reading.Answer.{Answer}
-use Rattle.reader.specs.declared.reading.Answer.the-variants.{Refused, Accepted}
+use Rattle.reader.specs.declared.reading.Answer.the-variants.{Accepted}
 use Rattle.reader.specs.declared.reading.Report.{Report}
 use Rattle.walk.specs.Theorems.{Sound}
 use Rattle.writer.specs.Laying.{idlePacket, mostLeft, placedPart, shortIdle}
 use Rattle.writer.specs.Writing as write
 use Rattle.writer.specs.declared.writing.Answer.the-variants.{Frame}
 use Rattle.writer.specs.declared.writing.Place.{Place}
-use Rattle.demands.specs.History.{arrives, Delivers, wanted}
+use Rattle.demands.specs.History.{arrives, Delivers, handedOut, wanted}
 
 -- a call of the writer: its control word, "as they please", and the output that it is lent
 pub record Writing : Type 0 where
@@ -84,24 +82,6 @@ unfoldable pub fitting : ℕ → List (List ℕ) → List (List ℕ)
 fitting limit [] = []
 fitting limit (p ∷ ps) = pick (leb (length p) limit) (p ∷ fitting limit ps) (fitting limit ps)
 
--- the packets that stand end to end at the start of an output: n of them, each as long as its own header says
-unfoldable pub packetsIn : ℕ → List ℕ → List (List ℕ)
-packetsIn zero out = []
-packetsIn (suc n) out = take (frontOf out) out ∷ packetsIn n (drop (frontOf out) out)
-
--- how many packets an answer says were delivered
-unfoldable pub deliveredOf : Answer → ℕ
-deliveredOf (Refused r) = 0
-deliveredOf (Accepted a) = a .delivered
-
--- what the readings hand out, call after call: of each output as many packets as the answer says
-unfoldable pub handedOut : ℕ → SetUp → Record → List ℕ → List (List ℕ) → List (List ℕ) → List (List ℕ)
-handedOut limit u rec store [] outs = []
-handedOut limit u rec store (f ∷ fs) [] = []
-handedOut limit u rec store (f ∷ fs) (o ∷ os) =
-    packetsIn (deliveredOf (read.answerOver source limit u rec store o f)) (read.outputOver source limit u rec store o f)
-    ++ handedOut limit u (read.recordOver source limit u rec store o f) (read.storeOver source limit u rec store o f) fs os
-
 -- the frames of a run read back
 pub record ReadsBack (limit : ℕ) (u : SetUp) (v : ℕ) (ps : List (List ℕ)) (p : Place) (cs : List Writing) (store : List ℕ)
     (outs : List (List ℕ)) : Type 0 where
@@ -115,7 +95,7 @@ pub record ReadsBack (limit : ℕ) (u : SetUp) (v : ℕ) (ps : List (List ℕ)) 
   pub smooth : Smooth source limit u freshRecord store (frames u v (endToEnd ps) p cs) outs
   -- so at the run's end: exactly all packets of the run that are not idle and have at most `limit` octets were handed out, in order
   pub all-out : placeAfter u v (endToEnd ps) p cs .offset ≡ length (endToEnd ps)
-      → handedOut limit u freshRecord store (frames u v (endToEnd ps) p cs) outs ≡ wanted source (fitting limit ps)
+      → handedOut source limit u freshRecord store (frames u v (endToEnd ps) p cs) (map arrives outs) ≡ wanted source (fitting limit ps)
 
 -- the claim, over the limit of a delivered packet: the writer writes source packets alone
 abbrev pub Demand2Over : ℕ → Type 0

@@ -1,14 +1,15 @@
 -- A history of calls with the kept record and store: frames of the sender arrive or are lost, and other calls come in between. Over a packet
 -- family and the limit of a delivered packet.
 use mathlib.Core.Path.{_≡_}
-use mathlib.Core.Bool.{Bool, true, false, _&&_, not}
+use mathlib.Core.Bool.{Bool, true, false, _&&_}
 use mathlib.Core.List.{List, [], _∷_, _++_}
 use mathlib.Core.Logic.{_⊎_}
-use Prim.Native.Nat.{ℕ, _+_, _≤_}
+use Prim.Native.Nat.{ℕ, zero, suc, _+_, _≤_}
 use lib.Dec.{eqb, ltb, leb}
 use lib.ListN.{length, take, drop, replicate}
 use Rattle.octets.specs.Laid.{laid}
 use Rattle.octets.specs.Pick.{pick}
+use Rattle.packet.specs.Chain.{wholeIn}
 use Rattle.packet.specs.Family.{Family, Octets}
 use Rattle.packet.specs.Theorems.{endToEnd}
 use Rattle.frame.specs.Opening.{frameOf, idleData}
@@ -16,6 +17,7 @@ use Rattle.frame.specs.SetUp.{mostLength}
 use Rattle.frame.specs.declared.set_up.SetUp.{SetUp}
 use Rattle.channel.specs.declared.state.Record.{Record}
 use Rattle.reader.specs.Reading.{answerOver, recordOver, storeOver, outputOver}
+use Rattle.reader.specs.declared.reading.Answer.{Answer}
 use Rattle.reader.specs.declared.reading.Answer.the-variants.{Refused, Accepted}
 use Rattle.reader.specs.declared.reading.Refusal.{Refusal}
 use Rattle.reader.specs.declared.reading.Report.{Report}
@@ -123,3 +125,48 @@ Delivers F limit u tail ps rec store came fs (other u′ (with-store s) out f �
     Delivers F limit u tail ps (recordOver F limit u′ rec s out f) store came fs es
 Delivers F limit u tail ps rec store came fs (other u′ (with-record r) out f ∷ es) =
     Delivers F limit u tail ps rec (storeOver F limit u′ r store out f) came fs es
+
+-- over the whole history. The packets that stand end to end at the start of an output: n of them, each as long as its own header says
+unfoldable pub packetsIn : Family → ℕ → List ℕ → List (List ℕ)
+packetsIn F zero out = []
+packetsIn F (suc n) out =
+    let first : ℕ = wholeIn (F .size out) (length out) in
+    take first out ∷ packetsIn F n (drop first out)
+
+-- how many packets an answer says were delivered
+unfoldable pub deliveredOf : Answer → ℕ
+deliveredOf (Refused r) = 0
+deliveredOf (Accepted a) = a .delivered
+
+-- what all arrivals of a history together hand out: of the output of each as many packets as its answer says, one after the other, with record
+-- and store kept between calls; what other calls hand out is not of this channel
+unfoldable pub handedOut : Family → ℕ → SetUp → Record → List ℕ → List (List ℕ) → List Event → List (List ℕ)
+handedOut F limit u rec store fs [] = []
+handedOut F limit u rec store [] (lost ∷ es) = []
+handedOut F limit u rec store (f ∷ fs) (lost ∷ es) = handedOut F limit u rec store fs es
+handedOut F limit u rec store [] (arrives out ∷ es) = []
+handedOut F limit u rec store (f ∷ fs) (arrives out ∷ es) =
+    packetsIn F (deliveredOf (answerOver F limit u rec store out f)) (outputOver F limit u rec store out f)
+    ++ handedOut F limit u (recordOver F limit u rec store out f) (storeOver F limit u rec store out f) fs es
+handedOut F limit u rec store fs (other u′ both out f ∷ es) =
+    handedOut F limit u (recordOver F limit u′ rec store out f) (storeOver F limit u′ rec store out f) fs es
+handedOut F limit u rec store fs (other u′ (with-store s) out f ∷ es) = handedOut F limit u (recordOver F limit u′ rec s out f) store fs es
+handedOut F limit u rec store fs (other u′ (with-record r) out f ∷ es) = handedOut F limit u rec (storeOver F limit u′ r store out f) fs es
+
+-- of each octet of the stream that was sent, whether its frame arrived: `came` for those before this history, then those sent in it
+unfoldable pub cameAfter : SetUp → List Bool → List (List ℕ) → List Event → List Bool
+cameAfter u came fs [] = came
+cameAfter u came [] (lost ∷ es) = came
+cameAfter u came (f ∷ fs) (lost ∷ es) = cameAfter u (came ++ replicate (carried u f) false) fs es
+cameAfter u came [] (arrives out ∷ es) = came
+cameAfter u came (f ∷ fs) (arrives out ∷ es) = cameAfter u (came ++ replicate (carried u f) true) fs es
+cameAfter u came fs (other u′ lent out f ∷ es) = cameAfter u came fs es
+
+-- of packets that lie in the stream from place s on, those "of at most 4,096 octets all of whose octets lie in frames that arrived": that
+-- have at most `limit` octets, lie within the octets sent, and every octet of which came
+unfoldable pub arrivedWhole : ℕ → List Bool → ℕ → List (List ℕ) → List (List ℕ)
+arrivedWhole limit came s [] = []
+arrivedWhole limit came s (p ∷ ps) =
+    pick (leb (length p) limit && (leb (s + length p) (length came) && allArrived (take (length p) (drop s came))))
+    (p ∷ arrivedWhole limit came (s + length p) ps)
+    (arrivedWhole limit came (s + length p) ps)

@@ -1,116 +1,189 @@
--- One answer for each question: any two results that the contract of a public operation allows are equal, with what they leave behind. Each
--- field quotes an operation's `ensures`; the proof is in proofs/OneAnswer.antt. Results with several parts are tuples: the answer, then what
--- is left behind each `&mut`, in the parameters' order.
-use mathlib.Core.Path.{_≡_}
-use mathlib.Core.Bool.{Bool}
-use mathlib.Core.List.{List, _++_}
-use Prim.Native.Nat.{ℕ, _+_, _≤_, _<_, min}
-use lib.ListN.{length, getD, drop, replicate}
-use Rattle.octets.specs.Laid.{laid}
-use Rattle.octets.specs.Numbers.{numberAt, octetsOf}
-use Rattle.crc.specs.Register.{syndromeOf}
-use Rattle.frame.specs.Answers as frameAnswers
-use Rattle.frame.specs.Closing as closing
-use Rattle.frame.specs.Counts.{after, gapOf}
-use Rattle.frame.specs.Header as frameHeader
-use Rattle.frame.specs.Opening as opening
-use Rattle.frame.specs.SetUp.{fitsOf}
-use Rattle.frame.specs.declared.closing.Closed.{Closed}
-use Rattle.frame.specs.declared.closing.CloseRefusal.{CloseRefusal}
-use Rattle.frame.specs.declared.closing.ControlWord.{ControlWord}
-use Rattle.frame.specs.declared.counts.ChannelCount.{ChannelCount}
-use Rattle.frame.specs.declared.counts.MasterCount.{MasterCount}
-use Rattle.frame.specs.declared.header.Header.{Header}
-use Rattle.frame.specs.declared.opening.Opened.{Opened}
-use Rattle.frame.specs.declared.opening.Refusal.{Refusal}
-use Rattle.frame.specs.declared.set_up.SetUp.{SetUp}
-use Rattle.packet.specs.Chain.{chainOf, distanceOf, frontOf}
-use Rattle.packet.specs.Header as packetHeader
-use Rattle.packet.specs.Size as packetSize
-use Rattle.packet.specs.declared.header.Header.{Header as PacketHeader}
-use Rattle.packet.specs.declared.source.Size.{Size}
-use Rattle.channel.specs.Busy.{busyState, maskOf, countOf, lowestOf}
-use Rattle.channel.specs.Rules.{recordFollows}
-use Rattle.channel.specs.State.{freshRecord}
-use Rattle.channel.specs.Store.{placeOf, storeFits, outputFits}
-use Rattle.channel.specs.declared.state.Channel.{Channel}
+-- One answer for each question: any two results that the contract of a public operation allows are equal, with what they leave behind, and but
+-- for the parts named so it asks nothing of its arguments. Each field cites the operation's contract itself, as the source states it: `Asked` is
+-- what its `requires` ask, `Learnt` what its `ensures` tell of the arguments, the result and the parameters at exit. The proof is in
+-- proofs/OneAnswer.antt; tests/one_answer_test.py holds the fields against the sources.
+use mathlib.Core.List.{List}
+use mathlib.Core.Path.{_≡_, refl}
+use Prim.Native.Nat.{ℕ}
+use base.Logic.{emp}
+use contract.Lifetimes.{Lfts}
+use denote.Ref.{now}
+use denote.Triple.Clauses.{Ended, AtExit}
+use borrow.Fn.Claims.{AllOf}
+use borrow.Fn.Read.{Read, all-models, no-know, reads}
+use borrow.Fn.World.{ArgsD, ResD}
 use Rattle.channel.specs.declared.state.Record.{Record}
-use Rattle.channel.specs.declared.state.State.{State}
-use Rattle.reader.specs.Answers as readAnswers
-use Rattle.reader.specs.Reading.{Read}
-use Rattle.walk.specs.Steps.{Did, gapFor, stepsOf}
-use Rattle.walk.specs.Walk.{Walked, walkOf, handedAll, finished}
-use Rattle.walk.specs.declared.stepping.Course.{Course}
-use Rattle.reader.specs.declared.reading.Answer.{Answer}
-use Rattle.reader.specs.declared.reading.Refusal.{Refusal as ReadRefusal}
-use Rattle.walk.specs.declared.walking.Ended.{Ended}
-use Rattle.walk.specs.declared.walking.Tally.{Tally}
-use Rattle.writer.specs.Answers as writeAnswers
-use Rattle.writer.specs.Writing.{Wrote}
-use Rattle.writer.specs.declared.writing.Answer.{Answer as WriteAnswer}
-use Rattle.writer.specs.declared.writing.Place.{Place}
-use Rattle.writer.specs.declared.writing.Refusal.{Refusal as WriteRefusal}
+use Rattle.octets.proofs.octet as octet
+use Rattle.octets.proofs.octet_across as octet-across
+use Rattle.octets.proofs.number16 as number16
+use Rattle.octets.proofs.number32 as number32
+use Rattle.octets.proofs.put16 as put16
+use Rattle.octets.proofs.put32 as put32
+use Rattle.octets.proofs.copy as copy
+use Rattle.octets.proofs.fill as fill
+use Rattle.octets.proofs.least as least
+use Rattle.crc.proofs.syndrome as syndrome
+use Rattle.frame.proofs.set_up.SetUp.fits as set-up-fits
+use Rattle.frame.proofs.counts.MasterCount.next as master-next
+use Rattle.frame.proofs.counts.ChannelCount.next as channel-next
+use Rattle.frame.proofs.counts.ChannelCount.gap as gap
+use Rattle.frame.proofs.header.Header.of as frame-header
+use Rattle.frame.proofs.open as open-frame
+use Rattle.frame.proofs.opening.Refusal.number as open-number
+use Rattle.frame.proofs.closing.CloseRefusal.number as close-number
+use Rattle.frame.proofs.data_size_for as data-size-for
+use Rattle.frame.proofs.close as close-frame
+use Rattle.packet.proofs.source.Packet.fits as packet-fits
+use Rattle.packet.proofs.source.Packet.idle as packet-idle
+use Rattle.packet.proofs.source.Packet.idle_across as packet-idle-across
+use Rattle.packet.proofs.source.Packet.total as packet-total
+use Rattle.packet.proofs.source.Packet.size as packet-size
+use Rattle.packet.proofs.source.Packet.size_across as packet-size-across
+use Rattle.packet.proofs.header.Header.of as packet-header
+use Rattle.packet.proofs.front as front
+use Rattle.packet.proofs.is_chain as is-chain
+use Rattle.packet.proofs.distance as distance
+use Rattle.channel.proofs.state.Record.fresh as fresh
+use Rattle.channel.proofs.state.Record.busy as busy
+use Rattle.channel.proofs.state.Record.busy_count as busy-count
+use Rattle.channel.proofs.state.Record.lowest_busy as lowest-busy
+use Rattle.channel.proofs.busy_state as busy-state
+use Rattle.channel.proofs.follows as follows
+use Rattle.channel.proofs.store.Store.fits as store-fits
+use Rattle.channel.proofs.store.Store.place as store-place
+use Rattle.channel.proofs.store.Output.fits as output-fits
+use Rattle.walk.proofs.walk as walk
+use Rattle.walk.proofs.gap_for as gap-for
+use Rattle.walk.proofs.steps as steps
+use Rattle.reader.proofs.reading.Refusal.number as read-number
+use Rattle.reader.proofs.read_core as read-core
+use Rattle.reader.proofs.read as read
+use Rattle.reader.proofs.read_kept as read-kept
+use Rattle.writer.proofs.writing.Refusal.number as write-number
+use Rattle.writer.proofs.write as write
+use Rattle.host.proofs.scowdeck_read as scowdeck-read
+use Rattle.host.proofs.scowdeck_write as scowdeck-write
+use Rattle.host.proofs.scowdeck_busy as scowdeck-busy
+use Rattle.host.proofs.scowdeck_syndrome as scowdeck-syndrome
 
--- a question with one answer
-abbrev pub One : {A : Type 0} → (A → Type 0) → Type 0
-One {A} allowed = (x y : A) → allowed x → allowed y → x ≡ y
+-- what a contract says of the arguments, the result and the parameters at exit, of an operation of this signature
+abbrev pub Contract : Ended → Type 1
+Contract T = (κs : Lfts (T .signature .lifetimes)) → ArgsD (T .signature) κs → ResD (T .signature) κs → AtExit T κs → Type 0
+
+-- what a contract asks of the arguments
+abbrev pub Asks : Ended → Type 1
+Asks T = (κs : Lfts (T .signature .lifetimes)) → ArgsD (T .signature) κs → Type 0
+
+-- a question with one answer: of the same arguments, any two results that the contract allows are equal
+abbrev pub One : (T : Ended) → Contract T → Type 0
+One T contract = (κs : Lfts (T .signature .lifetimes)) (a : ArgsD (T .signature) κs) (x y : ResD (T .signature) κs) (e d : AtExit T κs)
+    → contract κs a x e → contract κs a y d → x ≡ y
+
+-- and so is what they leave behind each `&mut`: `left` has these, in the order of the parameters, of which e has the first as .0, the second as
+-- .1 .0, the third as .1 .1 .0 and so on
+abbrev pub OneLeft : {A : Type 0} (T : Ended) → Contract T → ((κs : Lfts (T .signature .lifetimes)) → AtExit T κs → A) → Type 0
+OneLeft T contract left = (κs : Lfts (T .signature .lifetimes)) (a : ArgsD (T .signature) κs) (x y : ResD (T .signature) κs) (e d : AtExit T κs)
+    → contract κs a x e → contract κs a y d → (x ≡ y) × (left κs e ≡ left κs d)
+
+-- an operation that answers for any input: it asks nothing of its arguments, and has one answer
+abbrev pub Answers : (T : Ended) → Asks T → Contract T → Type 0
+Answers T asks contract = ((κs : Lfts (T .signature .lifetimes)) (a : ArgsD (T .signature) κs) → asks κs a) × One T contract
+
+abbrev pub AnswersLeft : {A : Type 0} (T : Ended) → Asks T → Contract T → ((κs : Lfts (T .signature .lifetimes)) → AtExit T κs → A) → Type 0
+AnswersLeft T asks contract left =
+    ((κs : Lfts (T .signature .lifetimes)) (a : ArgsD (T .signature) κs) → asks κs a) × OneLeft T contract left
+
+-- the toolchain makes no `Asked` and no `Learnt` of the thin entry `read`, which takes a `&mut` to a struct: this reads them off its clauses by
+-- the same rules
+abbrev pub read-asks : (κs : Lfts 4) (a : ArgsD read.signature κs)
+    → Read (λ w. emp (w .𝓤)) no-know (λ w. read.clauses (w .𝓤) (w .H) (w .𝓖 .A) (w .𝓜 .mem) (w .𝓡 .run) κs a .requires tt)
+read-asks κs a =
+    all-models (λ w. read.clauses (w .𝓤) (w .H) (w .𝓖 .A) (w .𝓜 .mem) (w .𝓡 .run) κs a .requires tt)
+    (λ w. search reads) (λ w. refl) (λ w. refl) (λ w. refl)
+
+abbrev pub readAsked : Asks read.ended
+readAsked κs a = AllOf (read-asks κs a .owes)
+
+abbrev pub read-told : (κs : Lfts 4) (a : ArgsD read.signature κs) (r : ResD read.signature κs) (e : AtExit read.ended κs)
+    → Read (λ w. emp (w .𝓤)) no-know (λ w. read.clauses (w .𝓤) (w .H) (w .𝓖 .A) (w .𝓜 .mem) (w .𝓡 .run) κs a .ensures tt r e)
+read-told κs a r e =
+    all-models (λ w. read.clauses (w .𝓤) (w .H) (w .𝓖 .A) (w .𝓜 .mem) (w .𝓡 .run) κs a .ensures tt r e)
+    (λ w. search reads) (λ w. refl) (λ w. refl) (λ w. refl)
+
+abbrev pub readLearnt : Contract read.ended
+readLearnt κs a r e = AllOf (read-told κs a r e .tells)
 
 pub record OneAnswer : Type 0 where
-  -- octets: octet, octet_across, number16, number32, put16, put32, copy, fill, least
-  pub octet : (s : List ℕ) (at : ℕ) → One (λ (r : ℕ). (r ≡ getD s at 0) × (r < 256))
-  pub octet-across : (a b : List ℕ) (at : ℕ) → One (λ (r : ℕ). (r ≡ getD (a ++ b) at 0) × (r < 256))
-  pub number16 : (s : List ℕ) (at : ℕ) → One (λ (r : ℕ). (r ≡ numberAt s at 2) × (r < 65536))
-  pub number32 : (s : List ℕ) (at : ℕ) → One (λ (r : ℕ). r ≡ numberAt s at 4)
-  pub put : (n : ℕ) (s : List ℕ) (at v : ℕ) → One (λ (s′ : List ℕ). s′ ≡ laid s at (octetsOf n v))
-  pub copy : (d : List ℕ) (at : ℕ) (s : List ℕ) → One (λ (d′ : List ℕ). d′ ≡ laid d at s)
-  pub fill : (d : List ℕ) (at count v : ℕ) → One (λ (d′ : List ℕ). d′ ≡ laid d at (replicate count v))
-  pub least : (a b : ℕ) → One (λ (r : ℕ). r ≡ min a b)
-  -- crc: syndrome
-  pub syndrome : (m : List ℕ) → One (λ (r : ℕ). r ≡ syndromeOf m)
-  -- frame: SetUp::fits, the counts' next and gap, Header::of, open, number, data_size_for, close
-  pub set-up-fits : (u : SetUp) → One (λ (r : Bool). r ≡ fitsOf u)
-  pub master-next : (m : MasterCount) → One (λ (r : MasterCount). r .0 ≡ after (m .0))
-  pub channel-next : (c : ChannelCount) → One (λ (r : ChannelCount). r .0 ≡ after (c .0))
-  pub gap : (c last : ChannelCount) → One (λ (r : ℕ). r ≡ gapOf (c .0) (last .0))
-  pub frame-header : (f : List ℕ) → One (λ (r : Header). r ≡ frameHeader.headerOf f)
-  pub open-frame : (u : SetUp) (f : List ℕ) → One (λ (r : Opened). r ≡ opening.openOf u f)
-  pub open-number : (r : Refusal) → One (λ (n : ℕ). n ≡ frameAnswers.numberOf r)
-  pub close-number : (r : CloseRefusal) → One (λ (n : ℕ). n ≡ frameAnswers.closeNumberOf r)
-  pub data-size-for : (u : SetUp) (w : ControlWord) → One (λ (r : ℕ). r ≡ closing.closeSize u w)
-  pub close-frame : (u : SetUp) (v : ℕ) (m : MasterCount) (c : ChannelCount) (w : ControlWord) (p : ℕ) (out : List ℕ)
-      → One (λ (r : Closed × List ℕ). (r .0 ≡ closing.closeOf u v out) × (r .1 ≡ closing.outputOf u v m c w p out))
-  -- packet: Packet::fits, idle, idle_across, total, size, size_across, Header::of, front, is_chain, distance
-  pub packet-fits : (n : ℕ) → One (λ (r : Bool). r ≡ packetSize.fitsOf n)
-  pub packet-idle : (p : List ℕ) → One (λ (r : Bool). r ≡ packetSize.idleOf p)
-  pub packet-total : (p : List ℕ) → One (λ (r : ℕ). (r ≡ packetSize.totalOf p) × (r ≤ packetSize.formatMost))
-  pub packet-size : (p : List ℕ) → One (λ (r : Size). r ≡ packetSize.sizeOf p)
-  pub packet-size-across : (h f : List ℕ) → One (λ (r : Size). r ≡ packetSize.sizeOf (h ++ f))
-  pub packet-header : (p : List ℕ) → One (λ (r : PacketHeader). r ≡ packetHeader.headerOf p)
-  pub front : (run : List ℕ) → One (λ (r : ℕ). r ≡ frontOf run)
-  pub chain : (run : List ℕ) → One (λ (r : Bool). r ≡ chainOf run)
-  pub distance : (run : List ℕ) (offset : ℕ) → One (λ (r : ℕ). r ≡ distanceOf run offset)
-  -- channel: Record::fresh, busy, busy_count, lowest_busy, busy_state, follows, Store::fits, Store::place, Output::fits
-  pub fresh : One (λ (r : Record). r ≡ freshRecord)
-  pub busy : (rec : Record) → One (λ (r : ℕ). r ≡ maskOf (rec .channels))
-  pub busy-count : (rec : Record) → One (λ (r : ℕ). r ≡ countOf (rec .channels))
-  pub lowest-busy : (rec : Record) → One (λ (r : ℕ). r ≡ lowestOf (rec .channels))
-  pub busy-state : (s : State) → One (λ (r : Bool). r ≡ busyState s)
-  pub follows : (rec : Record) (store : List ℕ) → One (λ (r : Bool). r ≡ recordFollows packetSize.source packetSize.most store rec)
-  pub store-fits : (n : ℕ) → One (λ (r : Bool). r ≡ storeFits packetSize.most n)
-  pub store-place : (v : ℕ) → One (λ (r : ℕ). r ≡ placeOf packetSize.most v)
-  pub output-fits : (n : ℕ) → One (λ (r : Bool). r ≡ outputFits packetSize.most n)
-  -- walk: walk, gap_for, steps
-  pub walk : (limit : ℕ) (field : List ℕ) (from : ℕ) (out : List ℕ) (t : Tally)
-      → let w : Walked = walkOf packetSize.source limit (drop from field) in
-      One (λ (r : Ended × List ℕ). (r .0 ≡ finished packetSize.source t w) × (r .1 ≡ laid out (t .filled) (handedAll packetSize.source (w .whole))))
-  pub gap-for : (c : Channel) (h : Header) → One (λ (r : ℕ). r ≡ gapFor c h)
-  pub steps : (limit : ℕ) (part field out : List ℕ) (h : Header) (c : Channel)
-      → One (λ (r : Course × List ℕ × List ℕ). Did packetSize.source (stepsOf packetSize.source limit part field h c) (r .0) part (r .1) out (r .2))
-  -- reader: number, and read_core, read and read_kept, which have one contract
-  pub read-number : (r : ReadRefusal) → One (λ (n : ℕ). n ≡ readAnswers.numberOf r)
-  pub read : (u : SetUp) (rec : Record) (store out f : List ℕ)
-      → One (λ (r : Answer × Record × List ℕ × List ℕ). Read u rec store out f (r .0) (r .1) (r .2) (r .3))
-  -- writer: number, write
-  pub write-number : (r : WriteRefusal) → One (λ (n : ℕ). n ≡ writeAnswers.numberOf r)
-  pub write : (u : SetUp) (v : ℕ) (p : Place) (w : ControlWord) (run out : List ℕ)
-      → One (λ (r : WriteAnswer × Place × List ℕ). Wrote u v p w run out (r .0) (r .1) (r .2))
+  -- octets
+  pub least : Answers least.ended least.Reads.Asked least.Reads.Learnt
+  -- parts of octets that ask something of their arguments (decision 15)
+  pub octet : One octet.ended octet.Reads.Learnt
+  pub octet-across : One octet-across.ended octet-across.Reads.Learnt
+  pub number16 : One number16.ended number16.Reads.Learnt
+  pub number32 : One number32.ended number32.Reads.Learnt
+  pub put16 : OneLeft put16.ended put16.Reads.Learnt (λ κs e. now (e .0))
+  pub put32 : OneLeft put32.ended put32.Reads.Learnt (λ κs e. now (e .0))
+  pub copy : OneLeft copy.ended copy.Reads.Learnt (λ κs e. now (e .0))
+  pub fill : OneLeft fill.ended fill.Reads.Learnt (λ κs e. now (e .0))
+  -- crc
+  pub syndrome : Answers syndrome.ended syndrome.Reads.Asked syndrome.Reads.Learnt
+  -- frame
+  pub set-up-fits : Answers set-up-fits.ended set-up-fits.Reads.Asked set-up-fits.Reads.Learnt
+  pub master-next : Answers master-next.ended master-next.Reads.Asked master-next.Reads.Learnt
+  pub channel-next : Answers channel-next.ended channel-next.Reads.Asked channel-next.Reads.Learnt
+  pub gap : Answers gap.ended gap.Reads.Asked gap.Reads.Learnt
+  pub open-frame : Answers open-frame.ended open-frame.Reads.Asked open-frame.Reads.Learnt
+  pub open-number : Answers open-number.ended open-number.Reads.Asked open-number.Reads.Learnt
+  pub close-number : Answers close-number.ended close-number.Reads.Asked close-number.Reads.Learnt
+  pub data-size-for : Answers data-size-for.ended data-size-for.Reads.Asked data-size-for.Reads.Learnt
+  pub close-frame : AnswersLeft close-frame.ended close-frame.Reads.Asked close-frame.Reads.Learnt
+      (λ κs e. now (e .1 .1 .1 .1 .1 .1 .0))
+  -- parts of frame that ask something of their arguments (decision 15)
+  pub frame-header : One frame-header.ended frame-header.Reads.Learnt
+  -- packet
+  pub packet-fits : Answers packet-fits.ended packet-fits.Reads.Asked packet-fits.Reads.Learnt
+  pub packet-size : Answers packet-size.ended packet-size.Reads.Asked packet-size.Reads.Learnt
+  pub packet-size-across : Answers packet-size-across.ended packet-size-across.Reads.Asked packet-size-across.Reads.Learnt
+  pub front : Answers front.ended front.Reads.Asked front.Reads.Learnt
+  pub is-chain : Answers is-chain.ended is-chain.Reads.Asked is-chain.Reads.Learnt
+  -- parts of packet that ask something of their arguments (decision 15)
+  pub packet-idle : One packet-idle.ended packet-idle.Reads.Learnt
+  pub packet-idle-across : One packet-idle-across.ended packet-idle-across.Reads.Learnt
+  pub packet-total : One packet-total.ended packet-total.Reads.Learnt
+  pub packet-header : One packet-header.ended packet-header.Reads.Learnt
+  pub distance : One distance.ended distance.Reads.Learnt
+  -- channel
+  pub fresh : Answers fresh.ended fresh.Reads.Asked fresh.Reads.Learnt
+  pub busy : Answers busy.ended busy.Reads.Asked busy.Reads.Learnt
+  pub busy-count : Answers busy-count.ended busy-count.Reads.Asked busy-count.Reads.Learnt
+  pub lowest-busy : Answers lowest-busy.ended lowest-busy.Reads.Asked lowest-busy.Reads.Learnt
+  pub busy-state : Answers busy-state.ended busy-state.Reads.Asked busy-state.Reads.Learnt
+  pub store-fits : Answers store-fits.ended store-fits.Reads.Asked store-fits.Reads.Learnt
+  pub output-fits : Answers output-fits.ended output-fits.Reads.Asked output-fits.Reads.Learnt
+  -- parts of channel that ask something of their arguments (decision 15)
+  pub follows : One follows.ended follows.Reads.Learnt
+  pub store-place : One store-place.ended store-place.Reads.Learnt
+  -- walk
+  pub gap-for : Answers gap-for.ended gap-for.Reads.Asked gap-for.Reads.Learnt
+  -- parts of walk that ask something of their arguments (decision 15)
+  pub walk : OneLeft walk.ended walk.Reads.Learnt (λ κs e. now (e .1 .1 .1 .0))
+  pub steps : OneLeft {A = List ℕ × List ℕ} steps.ended steps.Reads.Learnt
+      (λ κs e. (now (e .1 .1 .1 .1 .1 .0), now (e .1 .1 .1 .1 .1 .1 .0)))
+  -- reader
+  pub read-number : Answers read-number.ended read-number.Reads.Asked read-number.Reads.Learnt
+  pub read-core : AnswersLeft {A = List ℕ × List ℕ} read-core.ended read-core.Reads.Asked read-core.Reads.Learnt
+      (λ κs e. (now (e .1 .1 .1 .0), now (e .1 .1 .1 .1 .0)))
+  pub read : AnswersLeft {A = Record × List ℕ × List ℕ} read.ended readAsked readLearnt
+      (λ κs e. (now (e .1 .0), now (e .1 .1 .1 .0), now (e .1 .1 .1 .1 .0)))
+  pub read-kept : AnswersLeft {A = List ℕ × List ℕ} read-kept.ended read-kept.Reads.Asked read-kept.Reads.Learnt
+      (λ κs e. (now (e .1 .1 .1 .0), now (e .1 .1 .1 .1 .0)))
+  -- writer
+  pub write-number : Answers write-number.ended write-number.Reads.Asked write-number.Reads.Learnt
+  pub write : AnswersLeft write.ended write.Reads.Asked write.Reads.Learnt (λ κs e. now (e .1 .1 .1 .1 .1 .0))
+  -- host
+  pub scowdeck-read : AnswersLeft {A = List ℕ × List ℕ × List ℕ × List ℕ} scowdeck-read.ended scowdeck-read.Reads.Asked scowdeck-read.Reads.Learnt
+      (λ κs e. (now (e .1 .1 .1 .0), now (e .1 .1 .1 .1 .0), now (e .1 .1 .1 .1 .1 .0), now (e .1 .1 .1 .1 .1 .1 .1 .0)))
+  pub scowdeck-write : AnswersLeft {A = List ℕ × List ℕ} scowdeck-write.ended scowdeck-write.Reads.Asked scowdeck-write.Reads.Learnt
+      (λ κs e. (now (e .1 .1 .1 .1 .1 .1 .1 .1 .1 .1 .1 .0), now (e .1 .1 .1 .1 .1 .1 .1 .1 .1 .1 .1 .1 .0)))
+  pub scowdeck-busy : AnswersLeft scowdeck-busy.ended scowdeck-busy.Reads.Asked scowdeck-busy.Reads.Learnt (λ κs e. now (e .1 .0))
+  pub scowdeck-syndrome : Answers scowdeck-syndrome.ended scowdeck-syndrome.Reads.Asked scowdeck-syndrome.Reads.Learnt

@@ -1,7 +1,6 @@
 -- One answer for `take` (specs/Theorems).
 -- Assumes nothing.
-use mathlib.Core.Path.{_≡_, refl, _∙_, sym, ap, ap₂}
-use mathlib.Core.List.{List}
+use mathlib.Core.Path.{_≡_, _∙_, sym, ap, ap₂}
 use Prim.Native.Nat.{ℕ}
 use Rattle.channel.specs.declared.state.Record.{Record}
 use Rattle.reader.specs.declared.reading.Answer.{Answer}

@@ -13,7 +13,6 @@ use Rattle.octets.specs.Pick.{pick}
 use Rattle.packet.specs.Chain.{frontOf}
 use Rattle.packet.specs.Family.{Whole, AllWhole}
 use Rattle.packet.specs.Size.{sizeOf, idleOf, most, source}
-use Rattle.packet.specs.declared.source.Size.{Size}
 use Rattle.packet.specs.declared.source.Size.the-variants.{Total}
 use Rattle.packet.proofs.Laws.{source-lawful}
 use Rattle.packet.proofs.ChainTurns.{front-whole}
@@ -22,14 +21,13 @@ use Rattle.frame.specs.declared.header.Header.{Header}
 use Rattle.channel.specs.declared.state.Channel.{Channel}
 use Rattle.channel.specs.declared.state.State.{State}
 use Rattle.channel.specs.declared.state.State.the-variants.{Hunting, Gathering, Skipping}
-use Rattle.walk.specs.Walk.{Walked, walkOf, handed, handedAll, noTally, oneIdle, oneDelivered, tallied, talliedAll}
+use Rattle.walk.specs.Walk.{walkOf, handed, handedAll, noTally, oneIdle, oneDelivered, tallied, talliedAll}
 use Rattle.walk.specs.declared.walking.End.{End}
 use Rattle.walk.specs.declared.walking.Tally.{Tally}
 use Rattle.walk.specs.Steps.{Done, only, endedBy, ended, broke, disagreed, agrees, calledAt, hunted, gathered, skipped, resumed, carriesNone, gapFor, stepsOf, courseOf}
 use Rattle.reader.specs.Reading.{channelOf, doneBy, reportOf, outputAfter}
 use Rattle.walk.proofs.WalkLaws.{walk-ind, walk-stop, walk-whole, seen-whole}
 use Rattle.reader.proofs.ReadLaws.{found-none, leaves}
-use Rattle.reader.specs.declared.reading.Answer.{Answer}
 use Rattle.reader.specs.declared.reading.Answer.the-variants.{Accepted}
 use Rattle.desk.specs.Saving.{spanOf, octetsOf}
 use Rattle.desk.specs.Theorems.{Saved-exactly}

@@ -10,7 +10,6 @@ use lib.ListN.{length, getD, drop, drop-of-length-le}
 use lib.Seq.{drop-cons}
 use Rattle.octets.specs.Pick.{pick}
 use Rattle.desk.specs.Numbers.{digitOf, digitsFrom, largest, numberOf}
-use Rattle.desk.specs.declared.words.Number.{Number}
 use Rattle.desk.specs.declared.words.Number.the-variants.{Value, Bad}
 
 module _ (b : ℕ) where

@@ -158,7 +158,7 @@ module _ (u : SetUp) (channel : ℕ) (m : MasterCount) (k : ChannelCount) (w : C
     begins : p < 2048
         → Begins (frameAround u channel m k w p field) (u .spacecraft * 16 + channel * 2 + bit (flaggedBy w)) (m .0 * 256 + k .0) (6144 + p)
     begins lp =
-        let n = in-range u fits in
+        let n = in-range u .0 fits in
         let hb = bit-lt (flaggedBy w) in
         let x = behind-header in
         rw (x .1, header-three u channel m k (flaggedBy w) p (omega arith) hc hm hk, mod-eq-of-lt lp)
@@ -180,7 +180,7 @@ module _ (u : SetUp) (channel : ℕ) (m : MasterCount) (k : ChannelCount) (w : C
         let g = closedHeader (u .spacecraft) channel (flaggedBy w) m k p in
         let x = parts in
         let s = sizes u w fits in
-        let n = in-range u fits in
+        let n = in-range u .0 fits in
         let lh = length-header u channel m k (flaggedBy w) p in
         let lw = word-length w in
         let small : D ≤ 2042 = omega arith in
@@ -191,6 +191,6 @@ module _ (u : SetUp) (channel : ℕ) (m : MasterCount) (k : ChannelCount) (w : C
         let eD : D ≡ dataSize u g 0 = omega arith in
         let ew : wordNumber w ≡ wordOf g f (6 + D) = rw (x .1) (word-back w g (h ++ field) (x .0) (6 + D) refl hw (simp length-append (omega arith))) in
         sym (
-        right-frame u f g 0 D eg refl eD (s .1) refl (pointer-passes g D refl small hp) (wordNumber w) ew
+        right-frame u f g 0 D eg refl eD (s .least) refl (pointer-passes g D refl small hp) (wordNumber w) ew
         ∙ right-header u f g eg ev refl refl
         ∙ checked u f fits whole (check-passes u (h ++ field ++ wordOctets w) (u .«error_control») refl))

@@ -22,6 +22,7 @@ use Rattle.frame.specs.declared.set_up.SetUp.{SetUp}
 use Rattle.frame.specs.Answers.{bit}
 use Rattle.frame.specs.Closing.{flaggedBy, wordOctets, headerOctets, closeSize, fieldIn, withCheck, checkedOutput, frameAround}
 use Rattle.frame.specs.SetUp.{fitsOf}
+use Rattle.frame.specs.Theorems.{Sizes}
 use Rattle.frame.proofs.SetUpLaws.{in-range}
 
 pub bit-lt : (b : Bool) → bit b < 2
@@ -87,11 +88,15 @@ unfolding wordOctets flaggedBy
 word-length Absent = refl
 word-length (Present v) = length-octets 4 v
 
--- the parts of a frame fill it, and leave the data field at least one octet
-pub sizes : (u : SetUp) (w : ControlWord) → fitsOf u ≡ true
-    → (6 + closeSize u w + length (wordOctets w) + pick (u .«error_control») 2 0 ≡ u .length) × (1 ≤ closeSize u w)
+-- the parts of a frame fill it
+pub sizes : Sizes
 unfolding closeSize
-sizes u w e = omega (arith, in-range u e, word-length w, pick-le (flaggedBy w) 4, pick-le (u .«error_control») 2)
+sizes u w e =
+    let r = in-range u .0 e in
+    let l = word-length w in
+    let a = pick-le (flaggedBy w) 4 in
+    let b = pick-le (u .«error_control») 2 in
+    record { full = omega arith; least = omega arith; most = omega arith }
 
 -- the header, the word and the check written into the output make the frame
 module _ (u : SetUp) (channel : ℕ) (m : MasterCount) (k : ChannelCount) (w : ControlWord) (p : ℕ) (out o₁ o₂ o₃ : List ℕ) (at : ℕ) where

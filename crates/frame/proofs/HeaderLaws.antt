@@ -8,10 +8,8 @@ use native.Mathlib.Omega.{arith}
 use lib.Dec.{eqb}
 use lib.ListN.{getD}
 use Rattle.octets.specs.Numbers.{numberAt, bitsAt}
-use Rattle.octets.proofs.Laws.{number-two}
 use Rattle.octets.proofs.Fields.{in-first, in-second, in-third}
-use Rattle.frame.specs.declared.header.Header.{Header}
-use Rattle.frame.specs.Header.{headerOf, field, flag, versionOf}
+use Rattle.frame.specs.Header.{headerOf, flag, versionOf}
 use Rattle.frame.specs.Opening.{secondaryVersion}
 
 module _ (f : List ℕ) (b : numberAt f 2 2 < 65536) (c : numberAt f 4 2 < 65536) where
@@ -64,8 +62,3 @@ secondary-version-is f h = omega arith
 pub secondary-length-is : (f : List ℕ) → bitsAt f 6 1 2 6 ≡ getD f 6 0 % 64
 unfolding bitsAt numberAt
 secondary-length-is f = rw div-one (omega arith)
-
--- a channel has three bits
-pub channel-lt : (f : List ℕ) → headerOf f .channel < 8
-unfolding headerOf bitsAt
-channel-lt f = omega arith

@@ -1,7 +1,7 @@
 -- The table of refusals walked in the order of the code: what each test decides.
 -- Assumes nothing.
-use mathlib.Core.Path.{_≡_, refl, _∙_, sym, ap}
-use mathlib.Core.Bool.{Bool, true, false, not}
+use mathlib.Core.Path.{_≡_}
+use mathlib.Core.Bool.{true, false}
 use mathlib.Core.List.{List, [], _∷_}
 use Prim.Native.Nat.{ℕ, _+_, _≤_, _<_}
 use native.Mathlib.Omega.{arith}
@@ -9,12 +9,11 @@ use lib.ListN.{length}
 use borrow.Author.Tests.{eq-eqb, ne-eqb, lt-ltb, le-ltb}
 use Rattle.octets.specs.Pick.{pick}
 use Rattle.frame.specs.declared.header.Header.{Header}
-use Rattle.frame.specs.declared.opening.Opened.{Opened}
 use Rattle.frame.specs.declared.opening.Opened.the-variants.{Refused, Accepted}
 use Rattle.frame.specs.declared.opening.Refusal.the-variants.{SetUpRange, FrameLength, FrameCheck, FrameVersion, OtherSpacecraft, SecondaryHeader, NoData, OrderOrSegment, PointerPlace}
 use Rattle.frame.specs.declared.set_up.SetUp.{SetUp}
 use Rattle.frame.specs.Header.{headerOf}
-use Rattle.frame.specs.Opening.{row1, row5, row6, row7, row8, row9, row10, row11, row12, secondarySize, dataSize, dataPlace, wordOf, frameOf, openTable, openFrom}
+use Rattle.frame.specs.Opening.{row1, row5, row6, row7, row8, row9, row10, row11, row12, secondarySize, dataSize, dataPlace, wordOf, frameOf, frameTable, openTable, openFrom}
 use Rattle.frame.specs.SetUp.{fitsOf}
 use Rattle.frame.specs.Table.{row, firstCause}
 
@@ -26,40 +25,40 @@ outside u f a = rw a
 -- rows 5 and 6, of a set-up that fits
 module _ (u : SetUp) (f : List ℕ) (a : fitsOf u ≡ true) where
   pub wrong-length : (length f ≡ u .length → ⊥) → Refused FrameLength ≡ openFrom 0 u f
-  unfolding openFrom openTable firstCause row1 row5
+  unfolding openFrom openTable frameTable firstCause row1 row5
   wrong-length b = rw (a, ne-eqb (length f) (u .length) b)
 
   pub failed-check : length f ≡ u .length → row6 u f ≡ true → Refused FrameCheck ≡ openFrom 0 u f
-  unfolding openFrom openTable firstCause row1 row5
+  unfolding openFrom openTable frameTable firstCause row1 row5
   failed-check b c = rw (a, eq-eqb (length f) (u .length) b, c)
 
   pub checked : length f ≡ u .length → row6 u f ≡ false → openFrom 3 u f ≡ openFrom 0 u f
-  unfolding openFrom openTable firstCause row1 row5
+  unfolding openFrom openTable frameTable firstCause row1 row5
   checked b c = rw (a, eq-eqb (length f) (u .length) b, c)
 
 -- rows 7 to 9
 pub wrong-version : (u : SetUp) (f : List ℕ) → row7 f ≡ true → Refused FrameVersion ≡ openFrom 3 u f
-unfolding openFrom openTable firstCause
+unfolding openFrom openTable frameTable firstCause
 wrong-version u f a = rw a
 
 module _ (u : SetUp) (f : List ℕ) (h : Header) (e : h ≡ headerOf f) (a : row7 f ≡ false) where
   pub wrong-spacecraft : (h .spacecraft ≡ u .spacecraft → ⊥) → Refused OtherSpacecraft ≡ openFrom 3 u f
-  unfolding openFrom openTable firstCause row8
+  unfolding openFrom openTable frameTable firstCause row8
   wrong-spacecraft b = rw (a, ← e, ne-eqb (h .spacecraft) (u .spacecraft) b)
 
   pub wrong-secondary : h .spacecraft ≡ u .spacecraft → row9 h f ≡ true → Refused SecondaryHeader ≡ openFrom 3 u f
-  unfolding openFrom openTable firstCause row8
+  unfolding openFrom openTable frameTable firstCause row8
   wrong-secondary b c = rw (a, ← e, eq-eqb (h .spacecraft) (u .spacecraft) b, c)
 
   pub right-header : h .spacecraft ≡ u .spacecraft → row9 h f ≡ false → openFrom 6 u f ≡ openFrom 3 u f
-  unfolding openFrom openTable firstCause row8
+  unfolding openFrom openTable frameTable firstCause row8
   right-header b c = rw (a, ← e, eq-eqb (h .spacecraft) (u .spacecraft) b, c)
 
 -- rows 10 to 12
 module _ (u : SetUp) (f : List ℕ) (h : Header) (s D : ℕ) (e : h ≡ headerOf f) (es : s ≡ secondarySize h f) (eD : D ≡ dataSize u h s) where
   from-six : openFrom 6 u f ≡ firstCause (row NoData (row10 D) ∷ row OrderOrSegment (row11 h) ∷ row PointerPlace (row12 h D) ∷ [])
       Refused (Accepted (record { header = h; word = wordOf h f (dataPlace s + D); place = dataPlace s; size = D }))
-  unfolding openFrom openTable frameOf
+  unfolding openFrom openTable frameTable frameOf
   from-six = rw (eD, es, e)
 
   pub no-data : D < 1 → Refused NoData ≡ openFrom 6 u f

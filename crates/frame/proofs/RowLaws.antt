@@ -1,13 +1,16 @@
--- What decides row 12, and what it says where it passes.
+-- What decides row 12, and what rows 6, 9, 11 and 12 say where they pass.
 -- Assumes nothing.
 use mathlib.Core.Path.{_≡_, refl}
-use mathlib.Core.Bool.{Bool, true, false, not, _||_}
+use mathlib.Core.Bool.{Bool, true, false, not, _&&_, _||_}
+use mathlib.Core.List.{List}
 use mathlib.Core.Logic.{_⊎_, inl, inr}
 use Prim.Native.Nat.{ℕ, _≤_, _<_}
 use lib.Dec.{eqb, ltb}
 use borrow.Author.Tests.{lt-ltb, le-ltb, eq-eqb, ne-eqb, eqb-true, ltb-true, not-false}
+use Rattle.crc.specs.Register.{syndromeOf}
 use Rattle.frame.specs.declared.header.Header.{Header}
-use Rattle.frame.specs.Opening.{row12, idleData, noneStarts}
+use Rattle.frame.specs.declared.set_up.SetUp.{SetUp}
+use Rattle.frame.specs.Opening.{row6, row9, row11, row12, secondaryVersion, idleData, noneStarts}
 use Rattle.frame.specs.Theorems.{Points}
 
 module _ (h : Header) (D : ℕ) (s : h .synchronisation ≡ false) where
@@ -25,6 +28,28 @@ module _ (h : Header) (D : ℕ) (s : h .synchronisation ≡ false) where
   pub row12-other : D ≤ h .pointer → (h .pointer ≡ idleData → ⊥) → not (eqb (h .pointer) noneStarts) ≡ row12 h D
   unfolding row12
   row12-other p e = rw (s, le-ltb (h .pointer) D p, ne-eqb (h .pointer) idleData e)
+
+-- a row of two tests that passes: where the first holds, the second does not
+second-passes : (a b : Bool) → a && b ≡ false → a ≡ true → b ≡ false
+second-passes a b e h = rw h at e
+
+neither : (a b : Bool) → a || b ≡ false → (a ≡ false) × (b ≡ false)
+neither true b e = (e, cc)
+neither false b e = (refl, e)
+
+pub row6-zero : (u : SetUp) (f : List ℕ) → row6 u f ≡ false → u .«error_control» ≡ true → syndromeOf f ≡ 0
+unfolding row6
+row6-zero u f e a = eqb-true (syndromeOf f) 0 (not-false _ (second-passes (u .«error_control») _ e a))
+
+pub row9-zero : (h : Header) (f : List ℕ) → row9 h f ≡ false → h .secondary ≡ true → secondaryVersion f ≡ 0
+unfolding row9
+row9-zero h f e a = eqb-true (secondaryVersion f) 0 (not-false _ (second-passes (h .secondary) _ e a))
+
+pub row11-whole : (h : Header) → row11 h ≡ false → h .synchronisation ≡ false → (h .order ≡ false) × (h .segment ≡ 3)
+unfolding row11
+row11-whole h e s =
+    let n = neither (h .order) (not (eqb (h .segment) 3)) (rw s at e) in
+    (n .0, eqb-true (h .segment) 3 (not-false _ (n .1)))
 
 -- so a pointer that passes is below D, or one of the two
 or-either : (a b : Bool) → a || b ≡ true → (a ≡ true) ⊎ (b ≡ true)

@@ -6,28 +6,22 @@ use Prim.Native.Nat.{_≤_, _<_}
 use borrow.Author.Tests.{lt-leb, leb-true, le-leb}
 use Rattle.frame.specs.declared.set_up.SetUp.{SetUp}
 use Rattle.frame.specs.SetUp.{fitsOf}
+use Rattle.frame.specs.Theorems.{InRange, In-range}
 use lib.Dec.{leb}
-
--- N and the spacecraft number are within their ranges
-pub record InRange (u : SetUp) : Type 0 where
-  pub least : 13 ≤ u .length
-  pub most : u .length ≤ 2048
-  pub spacecraft : u .spacecraft ≤ 1023
 
 and-both : (a b : Bool) → a && b ≡ true → (a ≡ true) × (b ≡ true)
 and-both true b e = (refl, e)
 and-both false b e = (e, cc)
 
-pub in-range : (u : SetUp) → fitsOf u ≡ true → InRange u
+pub in-range : In-range
 unfolding fitsOf
-in-range u e =
-    let p = and-both (leb 13 (u .length)) (leb (u .length) 2048 && leb (u .spacecraft) 1023) e in
-    let q = and-both (leb (u .length) 2048) (leb (u .spacecraft) 1023) (p .1) in
-    record {
-      least = leb-true _ _ (p .0);
-      most = leb-true _ _ (q .0);
-      spacecraft = leb-true _ _ (q .1);
-    }
+in-range u = (within, λ r. rw (le-leb 13 (u .length) (r .least), le-leb (u .length) 2048 (r .most), le-leb (u .spacecraft) 1023 (r .spacecraft)))
+  where
+    within : leb 13 (u .length) && (leb (u .length) 2048 && leb (u .spacecraft) 1023) ≡ true → InRange u
+    within e =
+        let p = and-both (leb 13 (u .length)) (leb (u .length) 2048 && leb (u .spacecraft) 1023) e in
+        let q = and-both (leb (u .length) 2048) (leb (u .spacecraft) 1023) (p .1) in
+        record { least = leb-true _ _ (p .0); most = leb-true _ _ (q .0); spacecraft = leb-true _ _ (q .1) }
 
 pub fits-in-range : (u : SetUp) → 13 ≤ u .length → u .length ≤ 2048 → fitsOf u ≡ leb (u .spacecraft) 1023
 unfolding fitsOf

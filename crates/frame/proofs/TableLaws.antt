@@ -1,10 +1,10 @@
--- The first cause found: one row at a time, and exactly.
+-- The laws of specs/Table.antt: the first cause found, one row at a time, and exactly.
 -- Assumes nothing.
 use mathlib.Core.Path.{_≡_, refl, _∙_, sym, ap, subst}
 use mathlib.Core.Bool.{Bool, true, false}
 use mathlib.Core.List.{List, [], _∷_}
-use mathlib.Core.Logic.{_⊎_, inl, inr, _↔_}
-use Rattle.frame.specs.Table.{Row, row, firstCause, First, None}
+use mathlib.Core.Logic.{_⊎_, inl, inr}
+use Rattle.frame.specs.Table.{Row, row, firstCause, First, None, First-gives, None-gives, First-exactly, None-exactly, Made}
 
 module _ {R A : Type 0} (refused : R → A) (accepted : A) (r : R) (rows : List (Row R)) where
   -- a row whose cause holds gives the answer
@@ -30,39 +30,33 @@ module _ {R : Type 0} where
   found (a ∷ rows) = found-here a rows (a .cause) refl (found rows)
 
 module _ {R A : Type 0} (refused : R → A) (accepted : A) where
-  -- the case whose cause is the first gives the answer, and without a cause it is accepted
-  pub first-gives : (rows : List (Row R)) (r : R) → First rows r → firstCause rows refused accepted ≡ refused r
+  pub first-gives : First-gives refused accepted
   first-gives [] r f = absurd f
   first-gives (a ∷ rows) r (inl h) = here refused accepted (a .case) rows (h .1) ∙ ap refused (h .0)
   first-gives (a ∷ rows) r (inr h) = next refused accepted (a .case) rows (h .0) ∙ first-gives rows r (h .1)
 
-  pub none-gives : (rows : List (Row R)) → None rows → firstCause rows refused accepted ≡ accepted
+  pub none-gives : None-gives refused accepted
   unfolding firstCause
   none-gives [] n = refl
   none-gives (a ∷ rows) n = next refused accepted (a .case) rows (n .0) ∙ none-gives rows (n .1)
 
-  -- where no two cases give one answer, nor does an acceptance, a case gives the answer exactly when its cause is the first
-  pub first-exactly : ((s r : R) → refused s ≡ refused r → s ≡ r) → ((r : R) → accepted ≡ refused r → ⊥) → (rows : List (Row R)) (r : R)
-      → firstCause rows refused accepted ≡ refused r ↔ First rows r
+  pub first-exactly : First-exactly refused accepted
   first-exactly one other rows r = (by (found rows), first-gives rows r)
     where
       by : ((s : R) × First rows s) ⊎ None rows → firstCause rows refused accepted ≡ refused r → First rows r
       by (inl f) e = subst (First rows) (one (f .0) r (sym (first-gives rows (f .0) (f .1)) ∙ e)) (f .1)
       by (inr n) e = absurd (other r (sym (none-gives rows n) ∙ e))
 
-  -- an answer that no case gives is the acceptance, exactly when no cause holds
-  pub none-exactly : (y : A) → ((r : R) → refused r ≡ y → ⊥) → (rows : List (Row R))
-      → firstCause rows refused accepted ≡ y ↔ ((accepted ≡ y) × None rows)
+  pub none-exactly : None-exactly refused accepted
   none-exactly y other rows = (by (found rows), λ h. none-gives rows (h .1) ∙ h .0)
     where
       by : ((s : R) × First rows s) ⊎ None rows → firstCause rows refused accepted ≡ y → (accepted ≡ y) × None rows
       by (inl f) e = absurd (other (f .0) (sym (first-gives rows (f .0) (f .1)) ∙ e))
       by (inr n) e = (sym (none-gives rows n) ∙ e, n)
 
--- what is made of the answer is made of each case's
-module _ {R A B : Type 0} (g : A → B) (refused : R → A) (accepted : A) (rows : List (Row R)) where
-  pub made : g (firstCause rows refused accepted) ≡ firstCause rows (λ r. g (refused r)) (g accepted)
-  made = by (found rows)
+module _ {R A B : Type 0} (g : A → B) (refused : R → A) (accepted : A) where
+  pub made : Made g refused accepted
+  made rows = by (found rows)
     where
       by : ((r : R) × First rows r) ⊎ None rows → g (firstCause rows refused accepted) ≡ firstCause rows (λ r. g (refused r)) (g accepted)
       by (inl f) = ap g (first-gives refused accepted rows (f .0) (f .1)) ∙ sym (first-gives (λ r. g (refused r)) (g accepted) rows (f .0) (f .1))

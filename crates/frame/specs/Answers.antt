@@ -7,7 +7,6 @@ use Rattle.octets.specs.Pick.{pick}
 use Rattle.frame.specs.declared.closing.Closed.{Closed}
 use Rattle.frame.specs.declared.closing.CloseRefusal.{CloseRefusal}
 use Rattle.frame.specs.declared.header.Header.{Header}
-use Rattle.frame.specs.declared.opening.Frame.{Frame}
 use Rattle.frame.specs.declared.opening.Opened.{Opened}
 use Rattle.frame.specs.declared.opening.Opened.the-variants.{Refused, Accepted}
 use Rattle.frame.specs.declared.opening.Refusal.{Refusal}

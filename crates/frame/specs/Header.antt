@@ -5,8 +5,6 @@ use Prim.Native.Nat.{ℕ}
 use lib.Dec.{eqb}
 use Rattle.octets.specs.Numbers.{bitsAt}
 use Rattle.frame.specs.declared.header.Header.{Header}
-use Rattle.frame.specs.declared.counts.MasterCount.{MasterCount}
-use Rattle.frame.specs.declared.counts.ChannelCount.{ChannelCount}
 
 -- the number in `width` bits of the header, from bit `first`
 abbrev pub field : List ℕ → ℕ → ℕ → ℕ

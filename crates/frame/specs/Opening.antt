@@ -89,14 +89,17 @@ frameOf u f =
     let D : ℕ = dataSize u h s in
     record { header = h; word = wordOf h f (dataPlace s + D); place = dataPlace s; size = D }
 
--- rows 1 and 5 to 12, in the paper's order
-unfoldable pub openTable : SetUp → List ℕ → List (Row Refusal)
-openTable u f =
+-- rows 5 to 12, in the paper's order: what the frame itself is tested for
+unfoldable pub frameTable : SetUp → List ℕ → List (Row Refusal)
+frameTable u f =
     let h : Header = headerOf f in
     let D : ℕ = dataSize u h (secondarySize h f) in
-    row SetUpRange (row1 u) ∷ row FrameLength (row5 u f) ∷ row FrameCheck (row6 u f) ∷ row FrameVersion (row7 f)
-    ∷ row OtherSpacecraft (row8 u h) ∷ row SecondaryHeader (row9 h f) ∷ row NoData (row10 D) ∷ row OrderOrSegment (row11 h)
-    ∷ row PointerPlace (row12 h D) ∷ []
+    row FrameLength (row5 u f) ∷ row FrameCheck (row6 u f) ∷ row FrameVersion (row7 f) ∷ row OtherSpacecraft (row8 u h)
+    ∷ row SecondaryHeader (row9 h f) ∷ row NoData (row10 D) ∷ row OrderOrSegment (row11 h) ∷ row PointerPlace (row12 h D) ∷ []
+
+-- rows 1 and 5 to 12: the set-up, then the frame
+unfoldable pub openTable : SetUp → List ℕ → List (Row Refusal)
+openTable u f = row SetUpRange (row1 u) ∷ frameTable u f
 
 -- the answer once the first k rows have passed: the first cause found of the others, else what the frame gives
 unfoldable pub openFrom : ℕ → SetUp → List ℕ → Opened

@@ -8,13 +8,12 @@ use native.Mathlib.Omega.{arith}
 use borrow.Author.Tests.{ltb-true, leb-true, eqb-true}
 use lib.Dec.{eqb, leb, ltb}
 use lib.ListN.{length, getD, take, drop, replicate}
-use Rattle.octets.specs.Numbers.{bitsAt}
 use Rattle.octets.specs.Pick.{pick}
 use Rattle.packet.specs.Size.{most, sizeOf, source}
 use Rattle.packet.proofs.Laws.{source-lawful}
 use Rattle.walk.proofs.SourceLaws.{source-sound}
-use Rattle.frame.specs.Header.{headerOf}
 use Rattle.frame.specs.Opening.{frameOf, noneStarts}
+use Rattle.frame.proofs.Laws.{opened-sound}
 use Rattle.frame.proofs.TableLaws.{none-gives}
 use Rattle.frame.specs.declared.closing.ControlWord.{ControlWord}
 use Rattle.frame.specs.declared.header.Header.{Header}
@@ -30,7 +29,7 @@ use Rattle.channel.specs.declared.state.Record.{Record}
 use Rattle.channel.specs.declared.state.State.{State}
 use Rattle.channel.specs.declared.state.State.the-variants.{Hunting, Gathering, Skipping}
 use Rattle.reader.proofs.Laws.{accepted-keeps, few-enough}
-use Rattle.reader.proofs.ReadLaws.{found-none, leaves, ready}
+use Rattle.reader.proofs.ReadLaws.{found-none, leaves, opened, ready}
 use Rattle.reader.specs.Reading.{answerOf, channelOf, doneBy, fieldOf, recordOf, reportOf, storeOf}
 use Rattle.walk.specs.Steps.{Done, agrees, broke, calledAt, carriesNone, disagreed, ended, endedBy, gapFor, gathered, hunted, only, resumed, skipped, stepsOf}
 use Rattle.packet.specs.Family.{Octets}
@@ -160,11 +159,6 @@ steps-single limit part field h c =
     (either gap (broke (c .state) anew) on (broke-single (c .state) anew (hunted-single limit part field (h .pointer)))
     (resumed-single limit part field (h .pointer) (c .state)))
 
--- a pointer has eleven bits
-pointer-lt : (u : SetUp) (f : List ℕ) → frameOf u f .header .pointer < 2048
-unfolding frameOf headerOf bitsAt
-pointer-lt u f = omega arith
-
 module _ (u : SetUp) (rec : Record) (store out f : List ℕ) (a : Report) (e : answerOf u rec store out f ≡ Accepted a) where
   -- what is told of an accepted frame fits
   report-fits : ReportFits a
@@ -176,10 +170,10 @@ module _ (u : SetUp) (rec : Record) (store out f : List ℕ) (a : Report) (e : a
       let told : reportOf source x (channelOf x rec) (doneBy source most x rec store f) ≡ a = cc (leaves source most u rec store out f n .answers) in
       let s : Single (doneBy source most x rec store f) = steps-single most (partOf most (x .header .channel) store) (fieldOf x f) (x .header) (channelOf x rec) in
       let few = few-enough source most source-lawful u rec store out f a e in
-      let h = pointer-lt u f in
+      let o = opened-sound u f x (opened source most u rec store out f n) in
       record {
         channel = rw (← told) (omega (arith, r .channel));
-        pointer = rw (← told) (omega (arith, h));
+        pointer = rw (← told) (omega (arith, o .pointer-bits));
         delivered = omega (arith, few, r .few);
         idle = omega (arith, few, r .few);
         broken = rw (← told) (omega (arith, s .broken));

@@ -10,16 +10,14 @@ use borrow.Author.Tests.{not-false, ltb-true, ltb-false, eqb-true, eqb-false}
 use lib.Dec.{eqb, ltb}
 use lib.ListN.{length, getD, set, take, drop, length-append, length-take, length-drop, List·getD-append, List·getD-eq-default}
 use lib.Seq.{getD-drop, getD-take, getD-set-same, getD-set-other, take-all}
-use Rattle.octets.specs.Numbers.{bitsAt}
 use Rattle.octets.specs.Pick.{pick}
-use Rattle.octets.proofs.Laws.{in-second-run}
+use Rattle.octets.proofs.Laws.{in-second-run, pick-le}
 use Rattle.packet.specs.Size.{most, source}
 use Rattle.walk.proofs.SourceLaws.{source-sound}
-use Rattle.frame.proofs.ClosingLaws.{bit-lt}
-use Rattle.frame.specs.Header.{headerOf}
+use Rattle.frame.proofs.Laws.{opened-sound}
+use Rattle.frame.proofs.NumberLaws.{number-some}
 use Rattle.frame.specs.Opening.{frameOf, row1}
 use Rattle.frame.specs.SetUp.{fitsOf}
-use Rattle.frame.specs.declared.opening.Refusal.the-variants.{SetUpRange, FrameLength, FrameCheck, FrameVersion, OtherSpacecraft, SecondaryHeader, NoData, OrderOrSegment, PointerPlace}
 use Rattle.frame.specs.declared.set_up.SetUp.{SetUp}
 use Rattle.channel.specs.Rules.{recordFollows}
 use Rattle.channel.specs.State.{freshChannel}
@@ -30,7 +28,7 @@ use Rattle.channel.specs.declared.state.State.{State}
 use Rattle.channel.specs.declared.state.State.the-variants.{Hunting, Gathering, Skipping}
 use Rattle.reader.proofs.AfterLaws.{channels-kept}
 use Rattle.reader.proofs.Laws.{accepted-keeps, others-apart, refused-untouched}
-use Rattle.reader.proofs.ReadLaws.{at-record, found-none, leaves, ready, refuses}
+use Rattle.reader.proofs.ReadLaws.{at-record, found-none, leaves, opened, ready, refuses}
 use Rattle.reader.specs.Answers.{numberOf, valuesOf as readValues}
 use Rattle.reader.specs.Reading.{answerOf as readAnswer, doneBy, recordAfter, recordOf}
 use Rattle.reader.specs.declared.reading.Answer.{Answer as ReadAnswer}
@@ -44,7 +42,7 @@ use Rattle.writer.specs.Writing.{answerOf as writeAnswer}
 use Rattle.writer.specs.declared.writing.Answer.{Answer as WriteAnswer}
 use Rattle.writer.specs.declared.writing.Place.{Place}
 use Rattle.host.specs.Answer.{laidWords, readNumber}
-use Rattle.host.specs.Theorems.{Odd, OddChannel, Unpacks-packed, Packs-words, Fresh-words, Own-words, Odd-refused, Saved-follows, Saved-unpacks, Others-keep, Read-refused, Write-refused, Answer-sizes, Number-first, Laid-each, Read-one, Write-one, Busy-one, Syndrome-one}
+use Rattle.host.specs.Theorems.{Odd, OddChannel, Unpacks-packed, Packs-words, Fresh-words, Own-words, Odd-refused, Saved-follows, Saved-unpacks, Others-keep, Read-refused, Write-refused, Answer-sizes, Number-first, Laid-each}
 use Rattle.host.specs.Words.{brokenChannel, channelAt, eachChannel, numberWord, packedAll, packedChannel, stateWord, unpacked, unpackedChannel, unpackedState}
 use Rattle.host.proofs.FitLaws.{eight-channels, followed, whole-words}
 use Rattle.host.proofs.OwnLaws.{back, channel-follows, channel-own, drop-packed, each-at, own, unpacked-is, words-at}
@@ -64,7 +62,7 @@ packed-below : (cs : List Channel)
     → (i : ℕ) → getD (packedAll cs) i 0 < 2 ^ 32
 unfolding packedAll
 packed-below [] h i = omega arith
-packed-below (c ∷ cs) h zero = omega (arith, bit-lt (c .heard))
+packed-below (c ∷ cs) h zero = omega (arith, pick-le (c .heard) 1)
 packed-below (c ∷ cs) h (suc zero) = omega (arith, h 0 (omega arith) .0)
 packed-below (c ∷ cs) h (suc (suc zero)) = omega (arith, state-few (c .state))
 packed-below (c ∷ cs) h (suc (suc (suc zero))) = h 0 (omega arith) .1
@@ -93,7 +91,7 @@ odd-not : (c : Channel) (heard count state number : ℕ) → c .last .0 < 256 �
     → OddChannel heard count state number → ⊥
 odd-not c heard count state number k e (inl h) =
     let q = ap (λ (l : List ℕ). getD l 0 0) e in
-    omega (arith, q, bit-lt (c .heard))
+    omega (arith, q, pick-le (c .heard) 1)
 odd-not c heard count state number k e (inr (inl h)) =
     let q = ap (λ (l : List ℕ). getD l 1 0) e in
     omega (arith, q)
@@ -146,10 +144,6 @@ counts-small words v h = go (eqb (length words) 32)
     go true = rw (each-at (channelAt words) v h) (at-small words v)
     go false = rw (each-at (λ _. brokenChannel) v h) (omega arith)
 
-header-small : (u : SetUp) (f : List ℕ) → frameOf u f .header .count .0 < 256
-unfolding frameOf headerOf bitsAt
-header-small u f = omega arith
-
 set-small : (cs : List Channel) (i v : ℕ) (c : Channel) → c .last .0 < 256 → v < length cs → getD cs v freshChannel .last .0 < 256
     → getD (set cs i c) v freshChannel .last .0 < 256
 set-small cs i v c k l h = go (eqb v i) refl
@@ -167,10 +161,13 @@ module _ (u : SetUp) (rec : Record) (store out f : List ℕ) (a : Report) (e : r
       rw (← left-as)
       (channels-kept source (source-sound .laws) most (source-sound .wide) rec (frameOf u f) f store out (ready source most u rec store out f (frameOf u f) (refl, found-none source most u rec store out f a e)) ∙ n)
 
+  frame-count : frameOf u f .header .count .0 < 256
+  frame-count = opened-sound u f (frameOf u f) (opened source most u rec store out f (found-none source most u rec store out f a e)) .count-bits
+
   left-small : length (rec .channels) ≡ 8 → ((v : ℕ) → v < 8 → getD (rec .channels) v freshChannel .last .0 < 256)
       → (v : ℕ) → v < 8 → getD (recordOf u rec store out f .channels) v freshChannel .last .0 < 256
   unfolding recordAfter
-  left-small n h v l = rw (← left-as) (set-small (rec .channels) (frameOf u f .header .channel) v _ (header-small u f) (omega arith) (h v l))
+  left-small n h v l = rw (← left-as) (set-small (rec .channels) (frameOf u f .header .channel) v _ frame-count (omega arith) (h v l))
 
 pub saved-unpacks : Saved-unpacks
 saved-unpacks u words store out f answer r words′ store′ out′ answer′ c = go (readAnswer u (unpacked words) store out f) refl
@@ -186,15 +183,7 @@ saved-unpacks u words store out f answer r words′ store′ out′ answer′ c 
 
 -- a refusal's number is not 0
 refused-not : (r : Refusal) → numberOf r ≡ 0 → ⊥
-refused-not (OfFrame SetUpRange) e = omega arith
-refused-not (OfFrame FrameLength) e = omega arith
-refused-not (OfFrame FrameCheck) e = omega arith
-refused-not (OfFrame FrameVersion) e = omega arith
-refused-not (OfFrame OtherSpacecraft) e = omega arith
-refused-not (OfFrame SecondaryHeader) e = omega arith
-refused-not (OfFrame NoData) e = omega arith
-refused-not (OfFrame OrderOrSegment) e = omega arith
-refused-not (OfFrame PointerPlace) e = omega arith
+refused-not (OfFrame r) e = omega (arith, number-some r)
 refused-not StoreLength e = omega arith
 refused-not OutputLength e = omega arith
 refused-not BrokenRecord e = omega arith
@@ -276,22 +265,3 @@ laid-each old new = record {
         let k = ltb-false (length new) (length old) e in
         List·getD-eq-default (laidWords old new) 0 (simp (length-append, length-take, length-drop) (omega arith))
         ∙ sym (List·getD-eq-default old 0 (omega arith))
-
-pub read-one : Read-one
-read-one u words store out f answer r s words₁ words₂ store₁ store₂ out₁ out₂ answer₁ answer₂ a b = (
-  a .number ∙ sym (b .number),
-  a .record-left ∙ sym (b .record-left),
-  a .store-left ∙ sym (b .store-left),
-  a .output-left ∙ sym (b .output-left),
-  a .answer-left ∙ sym (b .answer-left),
-)
-
-pub write-one : Write-one
-write-one u channel p w run out answer r s out₁ out₂ answer₁ answer₂ a b =
-    (a .number ∙ sym (b .number), a .output-left ∙ sym (b .output-left), a .answer-left ∙ sym (b .answer-left))
-
-pub busy-one : Busy-one
-busy-one words answer r s answer₁ answer₂ a b = (a .mask ∙ sym (b .mask), a .answer-left ∙ sym (b .answer-left))
-
-pub syndrome-one : Syndrome-one
-syndrome-one octets r s a b = a ∙ sym b

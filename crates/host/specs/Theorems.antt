@@ -7,7 +7,6 @@ use Prim.Native.Nat.{ℕ, _+_, _*_, _/_, _%_, _^_, _<_, _≤_}
 use lib.ListN.{length, getD, take, drop, replicate}
 use Rattle.packet.specs.Family.{Octets}
 use Rattle.packet.specs.Size.{most, source}
-use Rattle.crc.specs.Register.{syndromeOf}
 use Rattle.frame.specs.Opening.{row1}
 use Rattle.frame.specs.declared.closing.ControlWord.{ControlWord}
 use Rattle.frame.specs.declared.set_up.SetUp.{SetUp}
@@ -28,7 +27,7 @@ use Rattle.writer.specs.declared.writing.Answer.{Answer as WriteAnswer}
 use Rattle.writer.specs.declared.writing.Place.{Place}
 use Rattle.host.specs.Answer.{laidWords, busyValues, readNumber}
 use Rattle.host.specs.Busy.{seen}
-use Rattle.host.specs.Calls.{BusyCall, ReadCall, WriteCall}
+use Rattle.host.specs.Calls.{ReadCall, WriteCall}
 use Rattle.host.specs.Words.{NumbersFit, packed, unpacked}
 
 -- a record of the right shape: eight channels, counts below 256, numbers below 2^32
@@ -126,21 +125,3 @@ Busy-exactly = (words : List ℕ) → ((v : ℕ) → v < 8 → maskOf (seen word
 -- of a record that was packed it is the record's mask, count and lowest channel
 abbrev pub Busy-packed : Type 0
 Busy-packed = (rec : Record) → length (rec .channels) ≡ 8 → busyValues (seen (packed rec)) ≡ busyValues (rec .channels)
-
--- any two results that a contract allows are equal, with all that they leave
-abbrev pub Read-one : Type 0
-Read-one = (u : SetUp) (words store out f answer : List ℕ) (r s : ℕ) (words₁ words₂ store₁ store₂ out₁ out₂ answer₁ answer₂ : List ℕ)
-    → ReadCall u words store out f answer r words₁ store₁ out₁ answer₁ → ReadCall u words store out f answer s words₂ store₂ out₂ answer₂
-    → (r ≡ s) × (words₁ ≡ words₂) × (store₁ ≡ store₂) × (out₁ ≡ out₂) × (answer₁ ≡ answer₂)
-
-abbrev pub Write-one : Type 0
-Write-one = (u : SetUp) (channel : ℕ) (p : Place) (w : ControlWord) (run out answer : List ℕ) (r s : ℕ) (out₁ out₂ answer₁ answer₂ : List ℕ)
-    → WriteCall u channel p w run out answer r out₁ answer₁ → WriteCall u channel p w run out answer s out₂ answer₂
-    → (r ≡ s) × (out₁ ≡ out₂) × (answer₁ ≡ answer₂)
-
-abbrev pub Busy-one : Type 0
-Busy-one = (words answer : List ℕ) (r s : ℕ) (answer₁ answer₂ : List ℕ)
-    → BusyCall words answer r answer₁ → BusyCall words answer s answer₂ → (r ≡ s) × (answer₁ ≡ answer₂)
-
-abbrev pub Syndrome-one : Type 0
-Syndrome-one = (octets : List ℕ) (r s : ℕ) → r ≡ syndromeOf octets → s ≡ syndromeOf octets → r ≡ s

@@ -1,12 +1,18 @@
--- A field of the 48 bits of a six-octet header that does not cross a border of 16 bits lies in one number of 16 bits.
+-- A field of so many bits is a number of so many bits. One of the 48 bits of a six-octet header that does not cross a border of 16 bits lies
+-- in one number of 16 bits.
 -- Assumes nothing.
 use mathlib.Core.Path.{_≡_, _∙_, sym, ap}
 use mathlib.Core.List.{List}
 use Prim.Native.Nat.{ℕ, _+_, _-_, _*_, _/_, _%_, _^_, _≤_, _<_}
+use native.Mathlib.Nat.{mod-lt}
 use native.Mathlib.Omega.{arith}
-use lib.Pow.{shr-shr, field, mod-mod-pow}
+use lib.Pow.{pow-pos, shr-shr, field, mod-mod-pow}
 use Rattle.octets.specs.Numbers.{numberAt, bitsAt}
 use Rattle.octets.proofs.Laws.{number-six}
+
+pub bits-lt : (l : List ℕ) (at n first width : ℕ) → bitsAt l at n first width < 2 ^ width
+unfolding bitsAt
+bits-lt l at n first width = mod-lt (numberAt l at n / 2 ^ (8 * n - (first + width))) (pow-pos width)
 
 -- w bits above the lowest j, of n and of n's lowest 16 bits
 low-field : (n j w : ℕ) → j + w ≤ 16 → n / 2 ^ j % 2 ^ w ≡ n % 2 ^ 16 / 2 ^ j % 2 ^ w

@@ -1,13 +1,13 @@
 -- Laws of `laid`, of octets stored one by one, and of numbers in octets.
 -- Assumes nothing.
-use mathlib.Core.Path.{_≡_, _∙_, sym, ap}
+use mathlib.Core.Path.{_≡_, refl, _∙_, sym, ap}
 use mathlib.Core.Bool.{Bool, true, false}
 use mathlib.Core.List.{List, [], _∷_, _++_}
-use Prim.Native.Nat.{ℕ, _+_, _-_, _*_, _/_, _%_, _≤_, _<_}
+use Prim.Native.Nat.{ℕ, zero, suc, _+_, _-_, _*_, _/_, _%_, _≤_, _<_}
 use native.Mathlib.Nat.{add-zero, add-assoc, div-one}
 use native.Mathlib.Numerals.{add-one, add-two, add-three}
 use native.Mathlib.Omega.{arith}
-use lib.ListN.{length, getD, set, take, drop, length-append, length-take, length-drop, List·getD-append}
+use lib.ListN.{length, getD, set, take, drop, replicate, length-append, length-take, length-drop, List·getD-append}
 use lib.Seq.{paste, paste-suc, sets-eq, take-length, getD-append-add}
 use Rattle.octets.specs.Laid.{laid}
 use Rattle.octets.specs.Numbers.{numberAt, octetsOf}
@@ -76,3 +76,9 @@ pub in-second-run : (a b : List ℕ) (at : ℕ) → length a ≤ at → getD b (
 in-second-run a b at h =
     let e : length a + (at - length a) ≡ at = omega arith in
     sym (getD-append-add a b (at - length a) 0) ∙ ap (λ (n : ℕ). getD (a ++ b) n 0) e
+
+-- a run of zeros is 0 at every place
+pub zeros-all : (n i : ℕ) → _≡_ {A = ℕ} (getD (replicate n 0) i 0) 0
+zeros-all zero i = refl
+zeros-all (suc n) zero = refl
+zeros-all (suc n) (suc i) = zeros-all n i

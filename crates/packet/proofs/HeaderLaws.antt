@@ -2,15 +2,14 @@
 -- Assumes nothing.
 use mathlib.Core.Path.{_≡_, refl, _∙_, sym, ap}
 use mathlib.Core.List.{List}
-use Prim.Native.Nat.{ℕ, _+_, _*_, _/_, _%_, _^_, _≤_, _<_}
+use Prim.Native.Nat.{ℕ, _+_, _/_, _%_, _<_}
 use native.Mathlib.Nat.{div-one}
 use native.Mathlib.Omega.{arith}
 use lib.Dec.{eqb}
 use lib.ListN.{getD}
 use Rattle.octets.specs.Numbers.{numberAt, bitsAt}
 use Rattle.octets.proofs.Fields.{in-first, in-second, in-third}
-use Rattle.packet.specs.declared.header.Header.{Header}
-use Rattle.packet.specs.Header.{headerOf, field}
+use Rattle.packet.specs.Header.{headerOf}
 use Rattle.packet.specs.Size.{versionOf}
 
 module _ (p : List ℕ) (a : numberAt p 0 2 < 65536) (b : numberAt p 2 2 < 65536) (c : numberAt p 4 2 < 65536) where

@@ -1,13 +1,13 @@
 -- The laws of a packet's size (specs/Theorems).
 -- Assumes nothing.
 use mathlib.Core.Path.{_≡_, refl, _∙_, sym, ap}
-use mathlib.Core.Bool.{Bool, true, false}
 use mathlib.Core.List.{List, [], _++_, append-assoc}
-use Prim.Native.Nat.{ℕ, _+_, _-_, _*_, _≤_, _<_, min}
+use Prim.Native.Nat.{ℕ, _+_, _-_, _%_, _≤_, _<_, min}
 use native.Mathlib.Decide.{decLt, ℕ-discrete}
 use native.Mathlib.Omega.{arith}
-use lib.ListN.{length, getD, take, drop, length-append, take-append-drop, List·getD-append}
-use lib.Seq.{take-all, take-take, take-append-add, take-append-le, take-append-seam, length-take-le}
+use lib.Dec.{eqb}
+use lib.ListN.{length, take, drop, length-append, take-append-drop, List·getD-append}
+use lib.Seq.{getD-take, take-all, take-take, take-append-add, take-append-le, take-append-seam, length-take-le}
 use borrow.Author.Tests.{eq-eqb, ne-eqb, lt-ltb, le-ltb}
 use Rattle.octets.specs.Laid.{laid}
 use Rattle.octets.specs.Numbers.{bitsAt, numberAt}
@@ -15,8 +15,9 @@ use Rattle.octets.proofs.Laws.{number-two}
 use Rattle.packet.specs.declared.source.Size.{Size}
 use Rattle.packet.specs.declared.source.Size.the-variants.{Wait, Foreign, Total}
 use Rattle.packet.specs.Family.{Octets}
-use Rattle.packet.specs.Size.{versionOf, totalOf, sizeOf}
-use Rattle.packet.specs.Theorems.{InWords, Size-in-words, Source-lawful, First-tells, Total-most, Six-tell}
+use Rattle.packet.specs.Size.{versionOf, totalOf, idleOf, sizeOf}
+use Rattle.packet.specs.Theorems.{InWords, Size-in-words, In-octets, Idle-told, Source-lawful, First-tells, Total-most, Six-tell}
+use Rattle.packet.proofs.HeaderLaws.{version-is, application-is}
 
 pub size-in-words : Size-in-words
 unfolding sizeOf
@@ -26,6 +27,20 @@ size-in-words p = record {
   few = λ h v l. rw (ne-eqb (length p) 0 (λ e. omega arith), eq-eqb (versionOf p) 0 v, lt-ltb (length p) 6 l);
   six = λ h v. rw (ne-eqb (length p) 0 (λ e. omega arith), eq-eqb (versionOf p) 0 v, le-ltb (length p) 6 h);
 }
+
+pub in-octets : In-octets
+unfolding idleOf
+in-octets p = record {
+  version = version-is p;
+  idle = ap (λ (n : ℕ). eqb n 2047) (application-is p ∙ ap (λ (n : ℕ). n % 2048) (number-two p 0));
+  total = ap (λ (n : ℕ). n + 7) (number-two p 4);
+}
+
+pub idle-told : Idle-told
+idle-told p n h =
+    let a : 0 < n = omega arith in
+    let b : 1 < n = omega arith in
+    rw (in-octets (take n p) .idle, in-octets p .idle, getD-take n p 0 0 a, getD-take n p 1 0 b)
 
 empty-waits : sizeOf [] ≡ Wait
 empty-waits = size-in-words [] .none refl

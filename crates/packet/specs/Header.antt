@@ -1,5 +1,4 @@
 -- The packet header (01, "Layouts"; 001 at 3.1): 6 octets, bits counted from the most significant, 0 first.
-use mathlib.Core.Bool.{Bool}
 use mathlib.Core.List.{List}
 use Prim.Native.Nat.{ℕ, _+_}
 use lib.Dec.{eqb}

@@ -1,16 +1,16 @@
 -- What is proved of a packet's size and of chains besides the functions' contracts. The proofs are in proofs/Laws.antt and proofs/ChainLaws.antt,
 -- under these names in lower case.
 use mathlib.Core.Path.{_≡_}
-use mathlib.Core.Bool.{true, false}
+use mathlib.Core.Bool.{true}
 use mathlib.Core.List.{List, [], _∷_, _++_}
 use mathlib.Core.Logic.{_↔_}
-use Prim.Native.Nat.{ℕ, _+_, _-_, _≤_, _<_}
+use Prim.Native.Nat.{ℕ, _+_, _-_, _*_, _/_, _%_, _≤_, _<_}
+use lib.Dec.{eqb}
 use lib.ListN.{length, getD, take}
-use Rattle.packet.specs.declared.source.Size.{Size}
 use Rattle.packet.specs.declared.source.Size.the-variants.{Wait, Foreign, Total}
 use Rattle.packet.specs.Chain.{chainOf, distanceOf}
 use Rattle.packet.specs.Family.{Lawful, Whole, AllWhole}
-use Rattle.packet.specs.Size.{formatMost, versionOf, totalOf, sizeOf, source}
+use Rattle.packet.specs.Size.{formatMost, versionOf, totalOf, idleOf, sizeOf, source}
 
 -- source packets keep the laws of a packet family
 abbrev pub Source-lawful : Type 0
@@ -37,6 +37,20 @@ pub record InWords (p : List ℕ) : Type 0 where
 
 abbrev pub Size-in-words : Type 0
 Size-in-words = (p : List ℕ) → InWords p
+
+-- in octets: the first holds the version in its upper three bits, the first two the application id in their lower eleven, the fifth and
+-- the sixth the length field
+pub record InOctets (p : List ℕ) : Type 0 where
+  pub version : getD p 0 0 < 256 → versionOf p ≡ getD p 0 0 / 32
+  pub idle : idleOf p ≡ eqb ((getD p 0 0 * 256 + getD p 1 0) % 2048) 2047
+  pub total : totalOf p ≡ getD p 4 0 * 256 + getD p 5 0 + 7
+
+abbrev pub In-octets : Type 0
+In-octets = (p : List ℕ) → InOctets p
+
+-- so two octets tell whether a packet is idle
+abbrev pub Idle-told : Type 0
+Idle-told = (p : List ℕ) (n : ℕ) → 2 ≤ n → idleOf (take n p) ≡ idleOf p
 
 -- packets' octets laid end to end
 abbrev pub endToEnd : List (List ℕ) → List ℕ

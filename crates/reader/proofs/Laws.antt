@@ -2,12 +2,13 @@
 -- Assumes nothing.
 use mathlib.Core.Path.{_≡_, refl, _∙_, sym, ap}
 use mathlib.Core.List.{List}
-use Prim.Native.Nat.{ℕ, zero, suc, _<_}
+use Prim.Native.Nat.{ℕ, _<_}
 use native.Mathlib.Numerals.{add-one}
 use native.Mathlib.Omega.{arith}
 use lib.Dec.{eqb}
-use lib.ListN.{getD, replicate}
+use lib.ListN.{getD}
 use Rattle.octets.specs.Pick.{pick}
+use Rattle.octets.proofs.Laws.{zeros-all}
 use Rattle.packet.specs.Family.{Family, Octets}
 use Rattle.frame.specs.Opening.{frameOf}
 use Rattle.frame.specs.declared.opening.Refusal.the-variants.{SetUpRange, FrameLength, FrameCheck, FrameVersion, OtherSpacecraft, SecondaryHeader, NoData, OrderOrSegment, PointerPlace}
@@ -22,7 +23,7 @@ use Rattle.reader.specs.declared.reading.Refusal.the-variants.{OfFrame, 
 use Rattle.reader.specs.declared.reading.Report.{Report}
 use Rattle.reader.specs.Answers.{numberOf, valuesOf}
 use Rattle.reader.specs.Reading.{readTableOver, channelOf, doneBy, reportOf, answerOver, storeOver, Ready}
-use Rattle.reader.specs.Theorems.{Number-exactly, Refused-zero, Accepted-exactly, Refused-untouched, Accepted-keeps, Others-apart, Few-enough}
+use Rattle.reader.specs.Theorems.{Number-exactly, Refused-zero, Accepted-values, Values-twenty, Accepted-exactly, Refused-untouched, Accepted-keeps, Others-apart, Few-enough}
 use Rattle.walk.specs.Theorems.{Sound}
 use Rattle.reader.proofs.AfterLaws.{store-kept, output-kept, channels-kept, octets-kept, other-part, other-channel, record-kept, done-few}
 use Rattle.reader.proofs.ReadLaws.{LeftBy, found-none, found-cause, leaves, ready, refuses}
@@ -124,11 +125,37 @@ pub few-enough : (F : Family) (limit : ℕ) → Few-enough F limit
 few-enough F limit laws u rec store out f a e =
     rw (told F limit u rec store out f a e) at (done-few F laws limit rec (frameOf u f) f store out (relied F limit u rec store out f a e))
 
-zeros-all : (n i : ℕ) → _≡_ {A = ℕ} (getD (replicate n 0) i 0) 0
-zeros-all zero i = refl
-zeros-all (suc n) zero = refl
-zeros-all (suc n) (suc i) = zeros-all n i
-
 pub refused-zero : (F : Family) (limit : ℕ) → Refused-zero F limit
 unfolding valuesOf
 refused-zero F limit u rec store out f r i e = rw (e, add-one) (zeros-all 19 i)
+
+pub accepted-values : Accepted-values
+unfolding valuesOf
+accepted-values a =
+    record {
+      number = refl;
+      kind = refl;
+      spacecraft = refl;
+      channel = refl;
+      flagged = refl;
+      master = refl;
+      count = refl;
+      secondary = refl;
+      synchronisation = refl;
+      order = refl;
+      segment = refl;
+      pointer = refl;
+      word = refl;
+      gap = refl;
+      delivered = refl;
+      idle = refl;
+      broken = refl;
+      disagreement = refl;
+      foreign = refl;
+      oversize = refl;
+    }
+
+pub values-twenty : Values-twenty
+unfolding valuesOf
+values-twenty (Refused r) = refl
+values-twenty (Accepted a) = refl

@@ -1,16 +1,15 @@
 -- One call by its table: the first cause found, row by row, and what a refusal and an acceptance answer and leave.
 -- Assumes nothing.
 use mathlib.Core.Path.{_≡_, refl, _∙_, sym, ap}
-use mathlib.Core.Bool.{true, false, false≢true}
+use mathlib.Core.Bool.{true, false}
 use mathlib.Core.List.{List, [], _∷_, map}
 use mathlib.Core.Logic.{inl, inr}
 use Prim.Native.Nat.{ℕ, _+_, _*_}
 use native.Mathlib.Omega.{arith}
-use lib.ListN.{length, getD, drop}
+use lib.ListN.{length}
 use borrow.Author.Tests.{not-false, eqb-true, leb-true, eq-eqb, ne-eqb}
 use Rattle.packet.specs.Family.{Family}
-use Rattle.frame.specs.Answers.{valuesOf as frameValuesOf}
-use Rattle.frame.specs.Opening.{row1, openTable, openOf, frameOf, idleData}
+use Rattle.frame.specs.Opening.{row1, frameTable, openOf, frameOf, idleData}
 use Rattle.frame.specs.SetUp.{fitsOf}
 use Rattle.frame.specs.Table.{Row, First, None}
 use Rattle.frame.specs.declared.header.Header.{Header}
@@ -19,7 +18,7 @@ use Rattle.frame.specs.declared.opening.Opened.{Opened}
 use Rattle.frame.specs.declared.opening.Refusal.{Refusal as FrameRefusal}
 use Rattle.frame.specs.declared.opening.Refusal.the-variants.{SetUpRange}
 use Rattle.frame.specs.declared.set_up.SetUp.{SetUp}
-use Rattle.frame.proofs.Laws.{number-exactly as frame-number-exactly, accepted-exactly as frame-accepted-exactly, opened-sound}
+use Rattle.frame.proofs.Laws.{frame-refused, frame-accepted, opened-sound}
 use Rattle.frame.proofs.TableLaws.{first-gives, none-gives, first-exactly, none-exactly}
 use Rattle.channel.specs.Rules.{recordFollows}
 use Rattle.channel.specs.Store.{storeFits, outputFits}
@@ -61,15 +60,6 @@ none-down : (rows : List (Row FrameRefusal)) → None (map ofFrame rows) → Non
 none-down [] h = tt
 none-down (a ∷ rows) h = (h .0, none-down rows (h .1))
 
--- the frame part's rows after the first
-first-open : (u : SetUp) (f : List ℕ) (r : FrameRefusal) → fitsOf u ≡ true → openOf u f ≡ Opened.Refused r → First (drop 1 (openTable u f)) r
-unfolding openTable row1 frameValuesOf
-first-open u f r a e = go (frame-number-exactly u f r .0 (ap (λ (o : Opened). getD (frameValuesOf o) 0 0) e))
-  where
-    go : First (openTable u f) r → First (drop 1 (openTable u f)) r
-    go (inl h) = absurd (false≢true (rw a at (h .1)))
-    go (inr h) = h .1
-
 -- test 2 in numbers
 pub whole-store : (limit n : ℕ) → storeFits limit n ≡ true → n ≡ limit * 8
 unfolding storeFits
@@ -99,13 +89,13 @@ module _ (F : Family) (limit : ℕ) (u : SetUp) (rec : Record) (store out f : Li
         module _ (d : recordFollows F limit store rec ≡ true) where
           pub at-frame : (r : FrameRefusal) → openOf u f ≡ Opened.Refused r → First (readTableOver F limit u rec store out f) (OfFrame r)
           unfolding readTableOver row1
-          at-frame r e = inr (rw a, inr (rw b, inr (rw c, inr (rw d, first-up (drop 1 (openTable u f)) r (first-open u f r a e)))))
+          at-frame r e = inr (rw a, inr (rw b, inr (rw c, inr (rw d, first-up (frameTable u f) r (frame-refused u f r a .0 e)))))
 
           pub at-none : (x : Frame) → openOf u f ≡ Opened.Accepted x → (x ≡ frameOf u f) × None (readTableOver F limit u rec store out f)
-          unfolding readTableOver row1 openTable
+          unfolding readTableOver row1
           at-none x e =
-              let o = frame-accepted-exactly u f x .0 e in
-              (o .0, (rw a, (rw b, (rw c, (rw d, none-up (drop 1 (openTable u f)) (o .1 .1))))))
+              let o = frame-accepted u f x .0 e in
+              (o .0, (rw a, (rw b, (rw c, (rw d, none-up (frameTable u f) (o .2))))))
 
 -- one answer is not the other
 accepted-refused : (a : Report) (r : Refusal) → Accepted a ≡ Refused r → ⊥
@@ -121,8 +111,8 @@ LeftBy F limit u rec store out f =
 module _ (F : Family) (limit : ℕ) (u : SetUp) (rec : Record) (store out f : List ℕ) where
   -- without a cause the frame opens
   pub opened : None (readTableOver F limit u rec store out f) → openOf u f ≡ Opened.Accepted (frameOf u f)
-  unfolding readTableOver openTable
-  opened n = frame-accepted-exactly u f (frameOf u f) .1 (refl, (n .0, none-down (drop 1 (openTable u f)) (n .1 .1 .1 .1)))
+  unfolding readTableOver row1
+  opened n = frame-accepted u f (frameOf u f) .1 (refl, not-false _ (n .0), none-down (frameTable u f) (n .1 .1 .1 .1))
 
   -- a call that is refused found a cause, and one that is accepted found none
   pub found-cause : (r : Refusal) → answerOver F limit u rec store out f ≡ Refused r → First (readTableOver F limit u rec store out f) r

@@ -7,7 +7,6 @@ use Rattle.reader.specs.declared.reading.Answer.{Answer}
 use Rattle.reader.specs.declared.reading.Answer.the-variants.{Refused, Accepted}
 use Rattle.reader.specs.declared.reading.Refusal.{Refusal}
 use Rattle.reader.specs.declared.reading.Refusal.the-variants.{OfFrame, StoreLength, OutputLength, BrokenRecord}
-use Rattle.reader.specs.declared.reading.Report.{Report}
 use Rattle.reader.specs.declared.reading.Kind.{Kind}
 use Rattle.reader.specs.declared.reading.Kind.the-variants.{Packets, Idle, Private}
 

@@ -1,7 +1,7 @@
 -- Reading a frame: the table of refusals (01, "When the desk says no"), and what one call answers and leaves behind; over a packet family and
 -- the limit of a delivered packet, and at the end for source packets and 4,096.
 use mathlib.Core.Bool.{Bool, true, false, not}
-use mathlib.Core.List.{List, [], _∷_, _++_, map}
+use mathlib.Core.List.{List, _∷_, map}
 use mathlib.Core.Path.{_≡_}
 use Prim.Native.Nat.{ℕ, _+_, _*_, _≤_, _<_}
 use lib.Dec.{eqb}
@@ -10,7 +10,7 @@ use Rattle.octets.specs.Laid.{laid}
 use Rattle.octets.specs.Pick.{pick}
 use Rattle.packet.specs.Family.{Family}
 use Rattle.packet.specs.Size.{most, source}
-use Rattle.frame.specs.Opening.{row1, openTable, frameOf, idleData}
+use Rattle.frame.specs.Opening.{row1, frameTable, frameOf, idleData}
 use Rattle.frame.specs.Closing.{channels}
 use Rattle.frame.specs.SetUp.{mostField, mostLength}
 use Rattle.frame.specs.Theorems.{Points}
@@ -52,11 +52,11 @@ row4 F limit rec store = not (recordFollows F limit store rec)
 abbrev pub ofFrame : Row FrameRefusal → Row Refusal
 ofFrame r = row (OfFrame (r .case)) (r .cause)
 
--- rows 1 to 12, in the paper's order: 1, then 2, 3 and 4, then what the frame part tests
+-- rows 1 to 12, in the paper's order: 1, then 2, 3 and 4, then what the frame itself is tested for
 unfoldable pub readTableOver : Family → ℕ → SetUp → Record → List ℕ → List ℕ → List ℕ → List (Row Refusal)
 readTableOver F limit u rec store out f =
     row (OfFrame SetUpRange) (row1 u) ∷ row StoreLength (row2 limit store) ∷ row OutputLength (row3 limit out)
-    ∷ row BrokenRecord (row4 F limit rec store) ∷ map ofFrame (drop 1 (openTable u f))
+    ∷ row BrokenRecord (row4 F limit rec store) ∷ map ofFrame (frameTable u f)
 
 -- "private if the synchronisation flag is 1, else idle if the pointer is 2046, else packets"
 unfoldable pub kindOf : Header → Kind

@@ -18,10 +18,11 @@ use Rattle.channel.specs.Rules.{recordFollows}
 use Rattle.channel.specs.State.{freshChannel}
 use Rattle.channel.specs.Store.{partOf}
 use Rattle.channel.specs.declared.state.Record.{Record}
+use Rattle.reader.specs.declared.reading.Answer.{Answer}
 use Rattle.reader.specs.declared.reading.Answer.the-variants.{Refused, Accepted}
 use Rattle.reader.specs.declared.reading.Refusal.{Refusal}
 use Rattle.reader.specs.declared.reading.Report.{Report}
-use Rattle.reader.specs.Answers.{numberOf, valuesOf}
+use Rattle.reader.specs.Answers.{kindNumber, numberOf, valuesOf}
 use Rattle.reader.specs.Reading.{readTableOver, answerOver, recordOver, storeOver, outputOver, channelOf}
 use Rattle.walk.specs.Steps.{carriesNone, gapFor}
 use Rattle.walk.specs.Theorems.{Sound, skipsOut}
@@ -35,6 +36,36 @@ Number-exactly F limit = (u : SetUp) (rec : Record) (store out f : List ℕ) (r 
 abbrev pub Refused-zero : Family → ℕ → Type 0
 Refused-zero F limit = (u : SetUp) (rec : Record) (store out f : List ℕ) (r : Refusal) (i : ℕ)
     → answerOver F limit u rec store out f ≡ Refused r → getD (valuesOf (answerOver F limit u rec store out f)) (i + 1) 0 ≡ 0
+
+-- the twenty values of an accepted frame's answer, by their places: the number 0, the kind, the header's fields but the version in the order of
+-- "Layouts" with flags as 1 and 0, control word, gap, and the counts
+pub record TwentyValues (a : Report) : Type 0 where
+  pub number : getD (valuesOf (Accepted a)) 0 0 ≡ 0
+  pub kind : getD (valuesOf (Accepted a)) 1 0 ≡ kindNumber (a .kind)
+  pub spacecraft : getD (valuesOf (Accepted a)) 2 0 ≡ a .header .spacecraft
+  pub channel : getD (valuesOf (Accepted a)) 3 0 ≡ a .header .channel
+  pub flagged : getD (valuesOf (Accepted a)) 4 0 ≡ pick (a .header .flagged) 1 0
+  pub master : getD (valuesOf (Accepted a)) 5 0 ≡ a .header .master .0
+  pub count : getD (valuesOf (Accepted a)) 6 0 ≡ a .header .count .0
+  pub secondary : getD (valuesOf (Accepted a)) 7 0 ≡ pick (a .header .secondary) 1 0
+  pub synchronisation : getD (valuesOf (Accepted a)) 8 0 ≡ pick (a .header .synchronisation) 1 0
+  pub order : getD (valuesOf (Accepted a)) 9 0 ≡ pick (a .header .order) 1 0
+  pub segment : getD (valuesOf (Accepted a)) 10 0 ≡ a .header .segment
+  pub pointer : getD (valuesOf (Accepted a)) 11 0 ≡ a .header .pointer
+  pub word : getD (valuesOf (Accepted a)) 12 0 ≡ a .word
+  pub gap : getD (valuesOf (Accepted a)) 13 0 ≡ a .gap
+  pub delivered : getD (valuesOf (Accepted a)) 14 0 ≡ a .delivered
+  pub idle : getD (valuesOf (Accepted a)) 15 0 ≡ a .idle
+  pub broken : getD (valuesOf (Accepted a)) 16 0 ≡ a .broken
+  pub disagreement : getD (valuesOf (Accepted a)) 17 0 ≡ a .disagreement
+  pub foreign : getD (valuesOf (Accepted a)) 18 0 ≡ a .foreign
+  pub oversize : getD (valuesOf (Accepted a)) 19 0 ≡ a .oversize
+
+abbrev pub Accepted-values : Type 0
+Accepted-values = (a : Report) → TwentyValues a
+
+abbrev pub Values-twenty : Type 0
+Values-twenty = (o : Answer) → length (valuesOf o) ≡ 20
 
 -- a frame is accepted exactly when no cause holds
 abbrev pub Accepted-exactly : Family → ℕ → Type 0

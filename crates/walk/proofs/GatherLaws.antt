@@ -4,21 +4,19 @@ use mathlib.Core.Path.{_≡_, refl, _∙_, sym, ap}
 use mathlib.Core.Bool.{Bool, true, false}
 use mathlib.Core.List.{List, _++_}
 use Prim.Native.Nat.{ℕ, _+_, _-_, _≤_, _<_}
-use native.Mathlib.Decide.{decLt, ℕ-discrete}
 use native.Mathlib.Omega.{arith}
 use lib.Dec.{ltb}
 use lib.ListN.{length, take, drop, length-append, length-take}
-use lib.Seq.{take-append-add, drop-append-add, getD-take}
+use lib.Seq.{take-append-add, drop-append-add}
 use borrow.Author.Tests.{ltb-true, leb-true}
 use Rattle.octets.specs.Laid.{laid}
-use Rattle.octets.specs.Numbers.{numberAt, bitsAt}
 use Rattle.octets.proofs.Runs.{laid-behind}
 use Rattle.octets.specs.Pick.{pick}
 use Rattle.packet.specs.Size.{sizeOf, idleOf, source}
 use Rattle.packet.specs.declared.source.Size.{Size}
 use Rattle.frame.specs.SetUp.{mostField, mostLength}
 use Rattle.packet.specs.declared.source.Size.the-variants.{Wait, Foreign, Total}
-use Rattle.packet.proofs.Laws.{source-lawful}
+use Rattle.packet.proofs.Laws.{source-lawful, idle-told}
 use Rattle.channel.specs.Rules.{judged, stateFollows}
 use Rattle.channel.specs.declared.state.State.the-variants.{Gathering}
 use Rattle.channel.proofs.RuleLaws.{both}
@@ -41,14 +39,6 @@ unfolding laid
 laid-more part field k h =
     let l : 0 + length (take k part ++ field) ≡ k + length field = omega (arith, length-run part field k h) in
     rw l
-
--- two octets tell whether a packet is idle
-pub idle-told : (l : List ℕ) (n : ℕ) → 2 ≤ n → idleOf (take n l) ≡ idleOf l
-unfolding idleOf bitsAt numberAt
-idle-told l n h =
-    let a : 0 < n = omega arith in
-    let b : 1 < n = omega arith in
-    rw (getD-take n l 0 0 a, getD-take n l 1 0 b)
 
 -- one packet fills at most its own length
 tally-fits : (p : List ℕ) → tallied source noTally p .filled ≤ length p

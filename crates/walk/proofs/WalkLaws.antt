@@ -2,11 +2,11 @@
 -- Assumes nothing.
 use mathlib.Core.Path.{_≡_, refl, _∙_, sym, ap}
 use mathlib.Core.Bool.{Bool, true, false}
-use mathlib.Core.List.{List, [], _∷_, _++_}
+use mathlib.Core.List.{List, [], _∷_}
 use Prim.Native.Nat.{ℕ, zero, suc, _+_, _-_, _*_, _≤_, _<_}
 use native.Mathlib.Nat.{mul-zero, mul-suc}
 use native.Mathlib.Omega.{arith}
-use lib.Dec.{eqb, ltb, leb}
+use lib.Dec.{ltb, leb}
 use lib.ListN.{length, take, drop, length-append, length-drop, length-take}
 use lib.Seq.{take-all, drop-drop}
 use borrow.Author.Tests.{ltb-false, leb-true, lt-ltb, le-ltb, le-leb, lt-leb, ne-eqb}
@@ -22,6 +22,7 @@ use Rattle.walk.specs.declared.walking.Seen.the-variants.{Stop, Whole}
 use Rattle.walk.specs.declared.walking.Tally.{Tally}
 use Rattle.octets.proofs.Runs.{laid-nil, laid-behind}
 use Rattle.walk.specs.Walk.{front, seenOf, Walked, cutOf, turn, turns, walkOf, handed, handedAll, oneIdle, oneDelivered, tallied, talliedAll, finished}
+use Rattle.walk.specs.Theorems.{Walk-turn}
 
 -- a whole packet at the front: its total, within the limit, is there
 pub record Stands (F : Family) (limit : ℕ) (d : List ℕ) (n : ℕ) : Type 0 where
@@ -76,21 +77,21 @@ enough F laws limit (suc f) (suc g) d hf hg =
     (λ n e. enough F laws limit f g (drop n d) (omega (arith, shorter F laws limit d n e)) (omega (arith, shorter F laws limit d n e)))
 
 -- one turn of the walk
-pub walk-turn : (F : Family) (laws : Lawful F) (limit : ℕ) (d : List ℕ) → walkOf F limit d ≡ turn (seenOf F limit d) d (walkOf F limit)
+pub walk-turn : (F : Family) (limit : ℕ) → Walk-turn F limit
 unfolding walkOf turns
-walk-turn F laws limit d =
+walk-turn F limit laws d =
     turn-same (seenOf F limit d) d (turns F limit (length d)) (walkOf F limit)
     (λ n e. enough F laws limit (length d) (suc (length (drop n d))) (drop n d) (shorter F laws limit d n e) (omega arith))
 
 pub walk-stop : (F : Family) (laws : Lawful F) (limit : ℕ) (d : List ℕ) (e : End) → seenOf F limit d ≡ Stop e → walkOf F limit d ≡ record { whole = []; end = e; rest = cutOf e d }
 unfolding turn
-walk-stop F laws limit d e s = walk-turn F laws limit d ∙ ap (λ (x : Seen). turn x d (walkOf F limit)) s
+walk-stop F laws limit d e s = walk-turn F limit laws d ∙ ap (λ (x : Seen). turn x d (walkOf F limit)) s
 
 pub walk-whole : (F : Family) (laws : Lawful F) (limit : ℕ) (d : List ℕ) (n : ℕ) → seenOf F limit d ≡ Whole n
     → walkOf F limit d
     ≡ record { whole = take n d ∷ walkOf F limit (drop n d) .whole; end = walkOf F limit (drop n d) .end; rest = walkOf F limit (drop n d) .rest }
 unfolding turn
-walk-whole F laws limit d n s = walk-turn F laws limit d ∙ ap (λ (x : Seen). turn x d (walkOf F limit)) s
+walk-whole F laws limit d n s = walk-turn F limit laws d ∙ ap (λ (x : Seen). turn x d (walkOf F limit)) s
 
 -- what holds where a walk ends, and goes from behind a whole packet to its front, holds of every walk
 by-front : (F : Family) (limit : ℕ) (P : List ℕ → Type 0) (d : List ℕ) (s : Seen) → seenOf F limit d ≡ s

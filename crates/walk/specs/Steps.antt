@@ -1,5 +1,5 @@
 -- What an accepted frame does (01, steps 1 to 5), over a packet family and the limit of a delivered packet. D is the length of the data field.
-use mathlib.Core.Bool.{Bool, true, false, not, _||_}
+use mathlib.Core.Bool.{Bool, true, not, _||_}
 use mathlib.Core.List.{List, [], _++_}
 use mathlib.Core.Logic.{_⊎_}
 use mathlib.Core.Path.{_≡_}

@@ -1,5 +1,4 @@
 -- The walk from packet to packet (01, step 5), over a packet family and the limit of a delivered packet.
-use mathlib.Core.Bool.{Bool, true, false}
 use mathlib.Core.List.{List, [], _∷_, _++_}
 use Prim.Native.Nat.{ℕ, zero, suc, _+_, _-_}
 use lib.Dec.{eqb, ltb, leb}
@@ -46,7 +45,8 @@ turn (Whole n) d on =
     let w : Walked = on (drop n d) in
     record { whole = take n d ∷ w .whole; end = w .end; rest = w .rest }
 
--- at most so many turns; no packet is shorter than an octet, so that as many turns as octets, and one, are enough
+-- at most so many turns; no packet is shorter than an octet, so that as many turns as octets, and one, are enough: `Walk-turn` in
+-- specs/Theorems says the walk without a number of turns
 unfoldable pub turns : Family → ℕ → ℕ → List ℕ → Walked
 turns F limit zero d = record { whole = []; end = End.Exact; rest = [] }
 turns F limit (suc f) d = turn (seenOf F limit d) d (turns F limit f)

@@ -1,6 +1,6 @@
 -- The frame around a data field that was laid into its place in the output.
 -- Assumes nothing.
-use mathlib.Core.Path.{_≡_, refl, _∙_, sym, ap, ap₂}
+use mathlib.Core.Path.{_≡_, refl, _∙_, ap, ap₂}
 use mathlib.Core.Bool.{Bool, true}
 use mathlib.Core.List.{List, _++_}
 use Prim.Native.Nat.{ℕ, _+_, _-_, _≤_, _<_}
@@ -19,8 +19,7 @@ use Rattle.frame.specs.declared.counts.ChannelCount.{ChannelCount}
 use Rattle.frame.specs.declared.counts.MasterCount.{MasterCount}
 use Rattle.frame.specs.declared.set_up.SetUp.{SetUp}
 use Rattle.frame.proofs.ClosingLaws.{sizes}
-use Rattle.frame.proofs.ClosingSteps.{passed, written}
-use Rattle.frame.proofs.SetUpLaws.{in-range}
+use Rattle.frame.proofs.Laws.{close-passes, close-around}
 use Rattle.writer.specs.declared.laying.Laid.{Laid}
 use Rattle.writer.specs.declared.writing.Answer.the-variants.{Frame}
 use Rattle.writer.specs.declared.writing.Place.{Place}
@@ -59,9 +58,9 @@ module _ (u : SetUp) (channel : ℕ) (m : MasterCount) (k : ChannelCount) (w : C
       let s = sizes u w fits in
       let h : 6 + closeSize u w ≤ length out = omega arith in
       let o = around (closeSize u w) out field in
-      let c = written u channel m k w pointer o (passed u channel o fits hc (length-around (closeSize u w) out h field l ∙ whole)) in
+      let c = close-passes u channel o .1 (fits, hc, length-around (closeSize u w) out h field l ∙ whole) in
       let f = field-around (closeSize u w) out h field l in
-      (sym (c .0), f, sym (c .1) ∙ ap (frameAround u channel m k w pointer) f)
+      (c, f, close-around u channel m k w pointer o c ∙ ap (frameAround u channel m k w pointer) f)
 
 -- nothing at all is placed: no left-over, and the run at its end
 module _ (run : List ℕ) (offset left : ℕ) (b : Bool) where
@@ -79,7 +78,7 @@ module _ (u : SetUp) (channel : ℕ) (p : Place) (w : ControlWord) (run out : Li
   fits-in = let s = sizes u w (r .fits) in omega (arith, r .output-whole)
 
   pub small : closeSize u w ≤ 2042
-  small = let s = sizes u w (r .fits) in omega (arith, in-range u (r .fits))
+  small = sizes u w (r .fits) .most
 
   pub wrote-by : (D : ℕ) (field o : List ℕ) (laid : Laid) (distance pointer : ℕ) (nothing : Bool) (m : MasterCount) (k : ChannelCount)
       → D ≡ closeSize u w

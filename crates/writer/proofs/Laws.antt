@@ -72,7 +72,7 @@ pub laid-well : Laid-well
 laid-well u channel p w run out e =
     let r = tested u channel p run out e .0 in
     let D = closeSize u w in
-    let some = sizes u w (r .fits) .1 in
+    let some = sizes u w (r .fits) .least in
     record {
       some = some;
       filled = length-field D run (p .offset) (p .«left_over»);
@@ -96,7 +96,7 @@ goes-on u channel p w run out e =
     let r = t .0 in
     let D = closeSize u w in
     let n : ℕ = length (runPart D run (p .offset) (p .«left_over»)) in
-    let l = left-then D run (p .offset) (p .«left_over») (sizes u w (r .fits) .1) (r .left-fits) (r .inside) in
+    let l = left-then D run (p .offset) (p .«left_over») (sizes u w (r .fits) .least) (r .left-fits) (r .inside) in
     let inside : p .offset + n ≤ length run = omega (arith, r .inside, length-run D run (p .offset) (p .«left_over»)) in
     record {
       next-passes = none-gives Refused Frame (writeTable u channel (nextPlace u p w run) run out)

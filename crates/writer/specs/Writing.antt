@@ -1,5 +1,5 @@
 -- Writing one frame: the table of refusals (01, "When the desk says no", "Writing, in order") and what one call answers and leaves.
-use mathlib.Core.Bool.{Bool, true, false, not, _&&_, _||_}
+use mathlib.Core.Bool.{Bool, true, not, _&&_, _||_}
 use mathlib.Core.List.{List, [], _∷_}
 use mathlib.Core.Path.{_≡_}
 use Prim.Native.Nat.{ℕ, _+_, _≤_, _<_}

@@ -1,6 +1,6 @@
 -- `octets::octet_across` meets its contract: an octet of the first run, or of the second.
 -- Assumes nothing.
-use mathlib.Core.Path.{_∙_, sym}
+use mathlib.Core.Path.{_∙_}
 use native.Mathlib.Omega.{arith}
 use Rattle.octets.proofs.Laws.{in-first-run, in-second-run}
 use borrow.Author.Needs.{needs}

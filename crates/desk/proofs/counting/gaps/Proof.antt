@@ -1,7 +1,6 @@
 -- `desk::counting::gaps` meets its contract.
 -- Assumes nothing.
 use borrow.Author.Tests.{eq-eqb, ne-eqb}
-use borrow.Author.Needs.{needs}
 use Rattle.desk.proofs.counting.gaps.Statement.{statement}
 use Rattle.desk.proofs.counting.gaps.Tie as tie
 

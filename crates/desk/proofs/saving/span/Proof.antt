@@ -3,10 +3,10 @@
 use mathlib.Core.Path.{_≡_}
 use native.Mathlib.Omega.{arith}
 use borrow.Author.Needs.{needs}
-use lib.ListN.{length, drop, length-drop}
+use lib.ListN.{drop}
 use Rattle.packet.specs.Chain.{frontOf}
 use Rattle.packet.proofs.ChainTurns.{looked}
-use Rattle.desk.proofs.Spans.{front-fits, Passed, passed-start, passed-more, passed-end}
+use Rattle.desk.proofs.Spans.{Passed, passed-start, passed-more, passed-end}
 use Rattle.desk.proofs.saving.span.Statement.{statement}
 use Rattle.desk.proofs.saving.span.Tie as tie
 

@@ -36,7 +36,7 @@ flagged-requires : tie.Need-flagged-requires
 flagged-requires c κs = search needs
 
 write-header-requires : tie.Need-write-header-requires
-write-header-requires c κs = let t = tested (c .before .before) in (t .0, t .1, omega (arith, in-range _ (t .0)))
+write-header-requires c κs = let t = tested (c .before .before) in (t .0, t .1, omega (arith, in-range _ .0 (t .0)))
 
 size-requires : tie.Need-size-requires
 size-requires c κs = search needs
@@ -46,7 +46,7 @@ if-present-requires c κs = search needs
 
 add-taken : tie.Need-add-taken
 add-taken c = let t = tested (c .before .before .before .before .before .before .before) in
-    omega (arith, sizes _ (c .before .before .before .before .before .before .before .before .before .before .before .before .before .args .word) (t .0), in-range _ (t .0))
+    omega (arith, sizes _ (c .before .before .before .before .before .before .before .before .before .before .before .before .before .args .word) (t .0), in-range _ .0 (t .0))
 
 sub-write : tie.Need-sub-write
 sub-write c = let t = tested (c .before .before .before .before .before .before .before .before .before) in
@@ -58,7 +58,7 @@ write-requires c κs = let t = tested (c .before .before .before .before .before
 
 write-check-requires : tie.Need-write-check-requires
 write-check-requires c κs = let t = tested (c .before .before .before .before .before .before .before .before .before .before .before .before .before) in
-    omega (arith, in-range _ (t .0), c .before .before .before .before .before .before .before .before .before .before .write-header .kept, c .before .before .before .write .kept)
+    omega (arith, in-range _ .0 (t .0), c .before .before .before .before .before .before .before .before .before .before .write-header .kept, c .before .before .before .write .kept)
 
 same-length : tie.Need-same-length
 same-length c = search needs

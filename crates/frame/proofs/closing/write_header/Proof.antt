@@ -65,7 +65,7 @@ returns c = let s = c .before .before .before .before .before .before .before .b
     let a = s .args in
     three-laid (a .output .now) _ _ _ _ _ _ (s .pre .2) (rw (c .before .before .before .before .before .before .before .before .before .before .before .before .before .bit-of .ensures) at (c .before .before .before .before .before .before .before .before .before .before .before .before .put16 .ensures)) (c .before .before .before .before .before .before .put162 .ensures) (c .before .before .put163 .ensures)
     ∙ ap (laid (a .output .now) 0) (sym (header-three (a .set) (a .channel) (a .master) (a .count) (a .flagged) (a .pointer)
-    (omega (arith, in-range _ (s .pre .0))) (s .pre .1) (omega arith) (omega arith)))
+    (omega (arith, in-range _ .0 (s .pre .0))) (s .pre .1) (omega arith) (omega arith)))
 
 pub write-header-spec : {M : Type 1} → statement M
 write-header-spec =

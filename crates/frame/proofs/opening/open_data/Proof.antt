@@ -9,7 +9,7 @@ use Rattle.frame.proofs.opening.open_data.Statement.{statement}
 use Rattle.frame.proofs.opening.open_data.Tie as tie
 
 secondary-size-requires : tie.Need-secondary-size-requires
-secondary-size-requires c κs = omega (arith, in-range _ (c .before .pre .0))
+secondary-size-requires c κs = omega (arith, in-range _ .0 (c .before .pre .0))
 
 data-size-requires : tie.Need-data-size-requires
 data-size-requires c κs = search needs
@@ -34,7 +34,7 @@ add-place : tie.Need-add-place
 add-place c = search needs
 
 add-word-at : tie.Need-add-word-at
-add-word-at c = omega (arith, in-range _ (c .before .before .before .before .before .before .before .before .pre .0), filled _ _ _ _ (c .before .before .before .before .before .data-size .ensures) (c .before .before .before .before .if1 .left))
+add-word-at c = omega (arith, in-range _ .0 (c .before .before .before .before .before .before .before .before .pre .0), filled _ _ _ _ (c .before .before .before .before .before .data-size .ensures) (c .before .before .before .before .if1 .left))
 
 word-at-requires : tie.Need-word-at-requires
 word-at-requires c κs = λ flagged. omega (arith, c .before .before .before .before .before .before .before .before .pre .1, rw flagged at (filled _ _ _ _ (c .before .before .before .before .before .data-size .ensures) (c .before .before .before .before .if1 .left)))

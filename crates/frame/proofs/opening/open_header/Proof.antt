@@ -9,19 +9,19 @@ use Rattle.frame.proofs.opening.open_header.Statement.{statement}
 use Rattle.frame.proofs.opening.open_header.Tie as tie
 
 other-version-requires : tie.Need-other-version-requires
-other-version-requires c κs = omega (arith, in-range _ (c .before .pre .0))
+other-version-requires c κs = omega (arith, in-range _ .0 (c .before .pre .0))
 
 returns : tie.Need-returns
 returns c = wrong-version _ _ (sym (c .before .other-version .ensures) ∙ c .if1 .taken)
 
 of-requires : tie.Need-of-requires
-of-requires c κs = omega (arith, in-range _ (c .before .before .before .pre .0))
+of-requires c κs = omega (arith, in-range _ .0 (c .before .before .before .pre .0))
 
 returns-2 : tie.Need-returns-2
 returns-2 c = wrong-spacecraft _ _ _ (c .before .before .before .of .ensures) (sym (c .before .before .before .before .before .other-version .ensures) ∙ c .before .before .before .before .if1 .left) (c .if2 .taken)
 
 bad-secondary-requires : tie.Need-bad-secondary-requires
-bad-secondary-requires c κs = omega (arith, in-range _ (c .before .before .before .before .before .before .before .pre .0))
+bad-secondary-requires c κs = omega (arith, in-range _ .0 (c .before .before .before .before .before .before .before .pre .0))
 
 returns-3 : tie.Need-returns-3
 returns-3 c = wrong-secondary _ _ _ (c .before .before .before .before .before .of .ensures) (sym (c .before .before .before .before .before .before .before .other-version .ensures) ∙ c .before .before .before .before .before .before .if1 .left) (c .before .before .if2 .left) (sym (c .before .bad-secondary .ensures) ∙ c .if3 .taken)

@@ -3,7 +3,7 @@
 use Rattle.frame.specs.Header.{versionOf}
 use Rattle.frame.specs.Opening.{row7}
 use mathlib.Core.Path.{_≡_}
-use Prim.Native.Nat.{_/_, _%_, _<_}
+use Prim.Native.Nat.{_/_, _<_}
 use native.Mathlib.Omega.{arith}
 use Rattle.octets.specs.Numbers.{numberAt}
 use Rattle.octets.proofs.Laws.{number-two}

@@ -1,7 +1,6 @@
 -- `scowdeck::files::make_all` is safe and ends.
 -- Assumes nothing.
 use Prim.Native.Nat.{_≤_, _-_}
-use lib.ListN.{length}
 use borrow.Author.Needs.{needs}
 use Rattle.scowdeck.proofs.files.make_all.Statement.{statement}
 use Rattle.scowdeck.proofs.files.make_all.Tie as tie

@@ -1,7 +1,6 @@
 -- `scowdeck::files::unmake_below` is safe and ends.
 -- Assumes nothing.
-use Prim.Native.Nat.{_≤_, _-_}
-use lib.ListN.{length}
+use Prim.Native.Nat.{_≤_}
 use borrow.Author.Needs.{needs}
 use Rattle.scowdeck.proofs.files.unmake_below.Statement.{statement}
 use Rattle.scowdeck.proofs.files.unmake_below.Tie as tie

@@ -1,7 +1,5 @@
 -- `scowdeck::recording::frames` is safe and ends.
 -- Assumes nothing.
-use Prim.Native.Nat.{_≤_, _-_}
-use lib.ListN.{length}
 use borrow.Author.Needs.{needs}
 use Rattle.scowdeck.proofs.recording.frames.Statement.{statement}
 use Rattle.scowdeck.proofs.recording.frames.Tie as tie

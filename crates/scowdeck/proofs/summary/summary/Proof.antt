@@ -1,7 +1,6 @@
 -- `scowdeck::summary::summary` is safe and ends.
 -- Assumes nothing.
 use Prim.Native.Nat.{_≤_, _-_}
-use lib.ListN.{length}
 use borrow.Author.Needs.{needs}
 use Rattle.scowdeck.proofs.summary.summary.Statement.{statement}
 use Rattle.scowdeck.proofs.summary.summary.Tie as tie

@@ -1,6 +1,5 @@
 -- `walk::look` meets its contract: what the size and the tests say of the front.
 -- Assumes nothing.
-use mathlib.Core.Path.{_∙_, sym}
 use Rattle.packet.specs.Size.{source}
 use Rattle.walk.proofs.WalkLaws.{sees-foreign, sees-end, sees-few, sees-oversize, sees-packet, sees-cut}
 use borrow.Author.Needs.{needs}

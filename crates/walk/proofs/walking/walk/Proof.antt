@@ -1,14 +1,13 @@
 -- `walk::walk` meets its contract: what the walk gives from the start is what it gives from here, after what is done.
 -- Assumes nothing.
-use mathlib.Core.Path.{_≡_, refl, _∙_, sym}
-use Prim.Native.Nat.{_+_, _-_, _≤_}
+use mathlib.Core.Path.{_≡_, _∙_}
+use Prim.Native.Nat.{_+_, _-_}
 use native.Mathlib.Omega.{arith}
-use lib.ListN.{length, take, drop, length-take, length-drop}
+use lib.ListN.{length, drop, length-take, length-drop}
 use borrow.Author.Needs.{needs}
 use Rattle.packet.proofs.Laws.{source-lawful}
 use Rattle.packet.specs.Size.{source}
-use Rattle.octets.specs.Laid.{laid}
-use Rattle.walk.specs.Walk.{seenOf, walkOf, handedAll, finished}
+use Rattle.walk.specs.Walk.{seenOf}
 use Rattle.walk.specs.declared.walking.Seen.the-variants.{Stop, Whole}
 use Rattle.walk.proofs.WalkLaws.{Stands, looked, seen-whole, Kept, kept-start, kept-more, kept-end}
 use Rattle.walk.proofs.walking.walk.Statement.{statement}

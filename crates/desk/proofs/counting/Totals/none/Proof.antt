@@ -2,7 +2,6 @@
 -- Assumes nothing.
 use mathlib.Core.Path.{refl}
 use Rattle.desk.specs.Counting.{noTotals}
-use borrow.Author.Needs.{needs}
 use Rattle.desk.proofs.counting.Totals.none.Statement.{statement}
 use Rattle.desk.proofs.counting.Totals.none.Tie as tie
 

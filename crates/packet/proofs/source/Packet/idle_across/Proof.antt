@@ -4,7 +4,7 @@ use mathlib.Core.Path.{_≡_}
 use Prim.Native.Nat.{_+_, _*_, _%_}
 use native.Mathlib.Omega.{arith}
 use mathlib.Core.List.{_++_}
-use Rattle.octets.specs.Numbers.{numberAt, bitsAt}
+use Rattle.octets.specs.Numbers.{bitsAt}
 use Rattle.octets.proofs.Laws.{number-two}
 use Rattle.packet.specs.Size.{idleOf}
 use Rattle.packet.proofs.HeaderLaws.{application-is}
