@@ -102,6 +102,8 @@ struct scowdeck_channel {
  * octets of the store from 4,096 times v on. Save both together and load both together, always, and
  * never set up one of them alone; a record with another time's store can pass every test and glue
  * two packets together. struct scowdeck_desk below has both in one piece.
+ * Both belong to one set-up as well, which they do not hold: lend them with the length, spacecraft and
+ * error control that they were made under. Another set-up is not found out, and can glue as well.
  *
  * The rules of a record (test 4), for each channel: heard is 0 or 1, last_count at most 255, state at
  * most 2; hunting has number 0; unheard means hunting; k is at most 4,095 and r is 1 to 65,536; of
@@ -143,7 +145,10 @@ struct scowdeck_read_answer {
     uint32_t pointer;
     uint32_t control_word;              /* 0 if not flagged */
     uint32_t gap;                       /* frames of this channel missing before this one, modulo 256: 255
-                                           if it came twice; 0 if the channel was not heard before */
+                                           if it came twice; 0 if the channel was not heard before. After
+                                           exactly 256 lost frames, or a multiple, it is 0 too, and a held
+                                           head can be joined to the tail of another packet: hence README's
+                                           `Demand3` is for at most 255 lost in a row */
     uint32_t delivered;                 /* packets put into the output */
     uint32_t idle;                      /* idle packets of at most 4,096 octets that were finished here */
     uint32_t broken;                    /* 1: a packet under way was given up */
@@ -156,7 +161,8 @@ struct scowdeck_read_answer {
 /* The answer of scowdeck_write, 5 words. On a refusal all but `number` are as they were given. */
 struct scowdeck_write_answer {
     uint32_t number;                    /* 0 written, or the refusal */
-    uint32_t offset;                    /* the next call's offset */
+    uint32_t offset;                    /* the next call's offset in the same run; a new run starts at 0,
+                                           with the left-over and the counts returned */
     uint32_t left_over;                 /* the next call's left-over */
     uint32_t master_count;              /* the next call's counts */
     uint32_t channel_count;
@@ -197,6 +203,8 @@ typedef char scowdeck_busy_answer_is_3_words[sizeof(struct scowdeck_busy_answer)
  * four words of the frame's channel are set; all others stay. In the store the octets now held
  * of that channel's packet are written, at the start of the channel's part; all others stay.
  * Refused: record, store and output are untouched. The same frame may be handed over again.
+ * A frame that is accepted twice is not recognised as a repeat: the second time it has gap 255, its
+ * whole packets come out again, and a packet under way is broken.
  */
 uint32_t scowdeck_read(uint32_t length, uint32_t spacecraft, uint32_t error_control,
                        uint32_t *record, size_t record_words, uint8_t *store, size_t store_octets,
@@ -212,7 +220,8 @@ uint32_t scowdeck_read(uint32_t length, uint32_t spacecraft, uint32_t error_cont
  *   has_word, word              has_word 0: the frame has no control word and `word` is not looked at;
  *                               anything else: it has this one
  *   run                         whole version 000 packets end to end, up to 65,536 octets, or none;
- *                               only read
+ *                               only read. Packets above 4,096 octets are written, but the desk that
+ *                               reads them delivers none of them: they count as oversize
  *   offset                      where in the run this frame goes on: 0 at first
  *   left_over                   octets of an earlier frame's filler that are still to be sent, 0 at first
  *   output                      where the frame goes: exactly N octets

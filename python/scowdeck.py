@@ -33,6 +33,7 @@ and loaded together:
 """
 import ctypes
 import enum
+import operator
 import os
 import pathlib
 import struct
@@ -52,7 +53,7 @@ WORDS = {
     1: "N or the spacecraft number is outside its range",
     2: "the store is not 32,768 octets",
     3: "the output is under 6,144 octets",
-    4: "one of the eight records breaks the rules",
+    4: "any of the eight channels' records breaks the rules",
     5: "the frame is not N octets",
     6: "error control is set up and the syndrome is not zero",
     7: "the frame version is not 00",
@@ -95,9 +96,9 @@ class Kind(enum.IntEnum):
 
 
 class Place(typing.NamedTuple):
-    """Where a writing stands: each call is given the place that the last one returned.
+    """Where a writing stands: in the same run each call is given the place that the last one returned.
 
-    A new run of packets starts at offset 0 with the left-over and the counts of the last place:
+    A new run of packets starts at offset 0, with the left-over and the counts returned:
     `place._replace(offset=0)`.
     """
 
@@ -120,11 +121,11 @@ class Report:
     """What an accepted frame gave.
 
     `control_word` is None if the frame has none. `gap` is how many frames of this channel are
-    missing before this one, modulo 256. `packets` are the delivered ones, in order; `idle` counts
-    the idle packets that ended in this frame. The other counts are 0 or 1: a packet under way was
-    given up (`broken`), the pointer was not the one that the packet under way called for
-    (`disagreement`), a packet of another version ended the walk (`foreign`), a packet of more than
-    4,096 octets began to be skipped (`oversize`).
+    missing before this one, modulo 256: 0 after exactly 256 lost frames too. `packets` are the
+    delivered ones, in order; `idle` counts the idle packets that ended in this frame. The other
+    counts are 0 or 1: a packet under way was given up (`broken`), the pointer was not the one that
+    the packet under way called for (`disagreement`), a packet of another version ended the walk
+    (`foreign`), a packet of more than 4,096 octets began to be skipped (`oversize`).
     """
 
     kind: Kind
@@ -191,16 +192,30 @@ def _octets(value):
     return value if isinstance(value, bytes) else bytes(memoryview(value))
 
 
-def _number(value):
+def _whole(value, name):
+    """A whole number; True and False are none here."""
+    if isinstance(value, bool) or not hasattr(value, "__index__"):
+        raise TypeError("%s is %r, and not a whole number" % (name, value))
+    return operator.index(value)
+
+
+def _truth(value, name):
+    """True or False, or a number: 0 is no, any other yes. A text such as "no" would count as true."""
+    if not hasattr(value, "__index__"):
+        raise TypeError("%s is %r, and not True or False" % (name, value))
+    return 1 if value else 0
+
+
+def _number(value, name):
     """A number for a place that the library tests. One that no 32 bits hold goes over as the greatest
     of 32 bits, which every one of those tests refuses as it would refuse the number itself."""
-    value = int(value.__index__())
+    value = _whole(value, name)
     return value if 0 <= value < 2**32 else 2**32 - 1
 
 
 def _bits(value, width, name):
     """A number for a place that takes any value of so many bits."""
-    value = int(value.__index__())
+    value = _whole(value, name)
     if not 0 <= value < 2**width:
         raise ValueError("%s is %d, which is not 0 to %d" % (name, value, 2**width - 1))
     return value
@@ -253,8 +268,9 @@ class Desk:
     store inside.
 
     `length` is the frame length N, 13 to 2,048; `spacecraft` 0 to 1,023; `error_control` says whether
-    the last two octets of a frame are error control. A set-up outside its ranges is refused at once.
-    One thread at a time may use a desk.
+    the last two octets of a frame are error control, True or False. A set-up outside its ranges is
+    refused at once; an argument that is no whole number, or no truth value, is a TypeError. One thread at a
+    time may use a desk.
 
     >>> Desk(length=12, spacecraft=171)
     Traceback (most recent call last):
@@ -263,7 +279,8 @@ class Desk:
     """
 
     def __init__(self, length, spacecraft, error_control=False):
-        self._set_up = _number(length), _number(spacecraft), 1 if error_control else 0
+        self._set_up = (_number(length, "length"), _number(spacecraft, "spacecraft"),
+                        _truth(error_control, "error_control"))
         self._record = (ctypes.c_uint32 * RECORD_WORDS)()
         self._store = (ctypes.c_uint8 * STORE_OCTETS)()
         self._output = (ctypes.c_uint8 * OUTPUT_OCTETS)()
@@ -327,10 +344,11 @@ class Desk:
         run, output = _octets(run), (ctypes.c_uint8 * self._set_up[0])()
         answer = (ctypes.c_uint32 * WRITE_WORDS)()
         number = library().scowdeck_write(
-            *self._set_up, _number(channel), _bits(place.master_count, 8, "master_count"),
+            *self._set_up, _number(channel, "channel"), _bits(place.master_count, 8, "master_count"),
             _bits(place.channel_count, 8, "channel_count"), 0 if control_word is None else 1,
             0 if control_word is None else _bits(control_word, 32, "control_word"), run, len(run),
-            _number(place.offset), _number(place.left_over), output, len(output), answer, WRITE_WORDS)
+            _number(place.offset, "offset"), _number(place.left_over, "left_over"), output, len(output),
+            answer, WRITE_WORDS)
         if number != 0:
             raise Refused(number)
         return bytes(output), Place(*answer[1:])
@@ -342,13 +360,14 @@ class Desk:
         return Busy(*answer)
 
     def save(self):
-        """Record and store together, as octets to keep for `Desk.load`."""
+        """Record and store together, as octets to keep for `Desk.load`. The set-up is not in them."""
         return _pack(self._record, self._store)
 
     @classmethod
     def load(cls, saved, length, spacecraft, error_control=False):
-        """A desk that goes on where the saved one stood. Octets that are not a whole saved desk, or a
-        damaged one, are a LoadError; a record that breaks the paper's rules is Refused by 4.
+        """A desk that goes on where the saved one stood. The set-up must be that of the saved one:
+        another is not found out. Octets that are not a whole saved desk, or a damaged one, are a
+        LoadError; a record that breaks the paper's rules is Refused by 4.
 
         >>> Desk.load(b"SCOWDECK", length=20, spacecraft=171)
         Traceback (most recent call last):

@@ -197,6 +197,23 @@ class Refusals(unittest.TestCase):
         self.assertRaises(TypeError, bench().read, 20)
         self.assertRaises(TypeError, bench().read, "text")
 
+    def test_kinds_of_numbers(self):
+        """What is no whole number, or no truth value, is a TypeError that names the argument."""
+        for other in ("20", 20.0, None, True, b"20"):
+            for name, call in [("length", lambda: Desk(other, 171)), ("spacecraft", lambda: Desk(20, other)),
+                               ("length", lambda: Desk.load(bench().save(), other, 171)),
+                               ("channel", lambda: bench().write(other, RUN))] + [
+                                   (name, lambda name=name: bench().write(3, RUN, Place(**{name: other})))
+                                   for name in Place._fields]:
+                self.assertRaisesRegex(TypeError, "^%s is " % name, call)
+        for other in ("20", 20.0, True, b"20"):
+            self.assertRaisesRegex(TypeError, "^control_word is ", bench().write, 3, RUN, Place(), other)
+        for other in ("no", "yes", "", 1.0, None):
+            self.assertRaisesRegex(TypeError, "^error_control is ", Desk, 20, 171, other)
+            self.assertRaisesRegex(TypeError, "^error_control is ", Desk.load, bench().save(), 20, 171, other)
+        for yes in (True, 1, 2):
+            self.assertEqual(repr(Desk(20, 171, yes)), "Desk(length=20, spacecraft=171, error_control=True)")
+
     def test_words(self):
         self.assertEqual(list(scowdeck.WORDS), list(range(1, 13)) + list(range(20, 26)))
         again = pickle.loads(pickle.dumps(Refused(12)))

@@ -94,7 +94,9 @@ def right_runs(folder):
             file.write(octets)
         same_as_model(folder, name, *set_up)
     status, printed, said = run("--help")
-    expect(status == 0 and said == "" and len(printed.split("\n")) <= 25 and max(map(len, printed.split("\n"))) <= 85, "--help")
+    expect(status == 0 and said == "" and len(printed.split("\n")) <= 31 and max(map(len, printed.split("\n"))) <= 85, "--help")
+    expect(run("-h") == (status, printed, said), "-h is not --help")
+    expect(run("--help", "more")[1] == printed, "the script's help is not what the program prints")
 
 
 def wrong_runs(folder):
@@ -118,6 +120,11 @@ def wrong_runs(folder):
         expect(status == 1 and printed == "" and message in said and said.count("\n") == 1, "%s: said %r" % (words, said))
         expect(sorted(os.listdir(folder)) == before, "%s: files were made" % (words,))
     expect(octets_of(taken + ".3") == b"kept", "a file was overwritten")
+    before = sorted(os.listdir(folder))
+    for out in ["/", folder + "/", "new/"]:
+        status, printed, said = run(*good[:4], out, folder=folder)
+        expect(status == 2 and printed == "" and "OUT ends in /" in said and said.count("\n") == 1, "OUT %s: said %r" % (out, said))
+    expect(sorted(os.listdir(folder)) == before, "an OUT that ends in /: files were made")
     status, printed, said = run(*good[:4])
     expect(status == 1 and "five words are wanted" in said, "four words: said %r" % said)
     status, printed, said = run(folder, *good[1:])

@@ -17,7 +17,7 @@ fn main() {
     println!("cargo:rerun-if-changed={}", archive.display());
     if !archive.is_file() {
         println!(
-            "cargo:warning=there is no {}: make it first, or name its folder in SCOWDECK_LIB_DIR",
+            "cargo:warning=there is no {}: run ./make-lib, or name its folder in SCOWDECK_LIB_DIR",
             archive.display()
         );
     }

@@ -10,10 +10,11 @@ static uint8_t output[SCOWDECK_OUTPUT_OCTETS], frame[20];
 int main(void)
 {
     struct scowdeck_read_answer a;
-    while (fread(frame, sizeof frame, 1, stdin) == 1) {
+    size_t n; /* octets read: a last frame that is cut short gets refusal 5 */
+    while ((n = fread(frame, 1, sizeof frame, stdin)) > 0) {
         const uint8_t *p = output;
         uint32_t refusal = scowdeck_read(sizeof frame, 171, 0, (uint32_t *)&desk.record, SCOWDECK_RECORD_WORDS, desk.store, sizeof desk.store,
-                                         output, sizeof output, frame, sizeof frame, (uint32_t *)&a, SCOWDECK_READ_WORDS);
+                                         output, sizeof output, frame, n, (uint32_t *)&a, SCOWDECK_READ_WORDS);
         if (refusal != SCOWDECK_ACCEPTED) printf("refusal %u\n", (unsigned)refusal);
         for (; a.delivered > 0; a.delivered--) {
             size_t octets = 7u + 256u * p[4] + p[5];

@@ -87,13 +87,14 @@ impl Desk {
         Busy { mask: mask as u8, ones, lowest: (lowest < 8).then_some(lowest as u8) }
     }
 
-    /// Record and store together, to go on later with [`Desk::load`].
+    /// Record and store together, to go on later with [`Desk::load`]. The set-up is not in it.
     pub fn save(&self) -> Saved {
         Saved::new(&self.record, &self.store)
     }
 
-    /// A desk that goes on where a saved one stood, under this set-up. A record that breaks the paper's rules
-    /// loads, and each reading then says so: [`Refusal::Record`].
+    /// A desk that goes on where a saved one stood, under this set-up, which must be that of the saved one:
+    /// another is not found out. A record that breaks the paper's rules loads, and each reading then says so:
+    /// [`Refusal::Record`].
     pub fn load(set_up: SetUp, octets: &[u8]) -> Result<Desk, LoadError> {
         let (record, store) = saved::load(octets)?;
         Ok(Desk::with(set_up, record, store.into()))

@@ -39,7 +39,7 @@ pub struct Report<'a> {
     pub pointer: u16,
     /// The control word, if the frame has one.
     pub control_word: Option<u32>,
-    /// Frames of this channel that are missing before this one, modulo 256.
+    /// Frames of this channel that are missing before this one, modulo 256: 0 after exactly 256 lost frames too.
     pub gap: u8,
     /// Packets delivered by this call.
     pub delivered: u32,

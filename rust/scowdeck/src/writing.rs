@@ -3,7 +3,8 @@
 use crate::ffi;
 use crate::{ChannelCount, MasterCount, Refusal, SetUp};
 
-/// Where a writing stands. Each call is given what the last one returned.
+/// Where a writing stands. In the same run each call is given what the last one returned; a new run starts at
+/// offset 0, with the left-over and the counts returned: `Place { offset: 0, ..place }`.
 #[derive(Clone, Copy, Debug, Default, PartialEq, Eq)]
 pub struct Place {
     /// Octets of the run that were written.
