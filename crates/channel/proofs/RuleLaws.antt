@@ -1,28 +1,29 @@
 -- What decides whether a state keeps the rules, variant by variant and test by test, and a record, channel by channel.
 -- Assumes nothing.
-use mathlib.Core.Path.{_≡_, refl}
+use mathlib.Core.Path.{_≡_, refl, _∙_, sym}
 use mathlib.Core.Bool.{Bool, true, false, _&&_, false≢true}
 use mathlib.Core.List.{List, [], _∷_}
 use mathlib.Core.Logic.{_↔_}
-use Prim.Native.Nat.{ℕ, zero, suc, _+_, _-_, _≤_, _<_}
+use Prim.Native.Nat.{ℕ, zero, suc, _+_, _-_, _≤_, _<_, min}
+use native.Mathlib.Decide.{decLt}
 use native.Mathlib.Nat.{add-zero, add-suc, suc-add, zero-add}
 use native.Mathlib.Numerals.{add-one}
 use native.Mathlib.Omega.{arith}
-use lib.Dec.{leb}
+use lib.Dec.{ltb, leb}
 use lib.ListN.{length, getD, take, drop, drop-of-length-le}
 use lib.Seq.{drop-cons}
-use borrow.Author.Tests.{lt-ltb, le-ltb, le-leb, lt-leb}
+use borrow.Author.Tests.{lt-ltb, le-ltb, le-leb, lt-leb, ltb-true, leb-true}
 use Rattle.packet.specs.Family.{Family}
 use Rattle.packet.specs.declared.source.Size.{Size}
-use Rattle.packet.specs.declared.source.Size.the-variants.{Total}
+use Rattle.packet.specs.declared.source.Size.the-variants.{Wait, Foreign, Total}
 use Rattle.channel.specs.declared.state.Channel.{Channel}
 use Rattle.channel.specs.declared.state.State.{State}
 use Rattle.channel.specs.declared.state.State.the-variants.{Gathering, Skipping}
 use Rattle.channel.specs.Rules.{judged, stateFollows, hunts, channelFollows, allFollow, recordFollows}
 use Rattle.channel.specs.State.{freshChannel}
-use Rattle.channel.specs.Store.{placeOf, partOf}
-use Rattle.channel.specs.Theorems.{Each-follows, Fresh-follows}
-use Rattle.channel.proofs.PartLaws.{cut-part}
+use Rattle.channel.specs.Store.{partPlace, partOf}
+use Rattle.channel.specs.Theorems.{Each-follows, Fresh-follows, Part-has-room}
+use Rattle.channel.proofs.PartLaws.{short-part}
 
 -- two tests
 pub both : (a b : Bool) → (a && b) ≡ true → (a ≡ true) × (b ≡ true)
@@ -31,6 +32,16 @@ both false b e = absurd (false≢true e)
 
 pub and : {a b : Bool} → a ≡ true → b ≡ true → (a && b) ≡ true
 and p q = rw (p, q)
+
+-- nothing told yet keeps the rules, and another version does not
+module _ (limit k : ℕ) {s : Size} where
+  pub waits-keep : s ≡ Wait → true ≡ judged limit k s
+  unfolding judged
+  waits-keep e = rw e
+
+  pub foreign-breaks : s ≡ Foreign → false ≡ judged limit k s
+  unfolding judged
+  foreign-breaks e = rw e
 
 -- a total above k is judged by the limit alone, and any other is refused
 module _ (limit k n : ℕ) {s : Size} (e : s ≡ Total n) where
@@ -42,16 +53,42 @@ module _ (limit k n : ℕ) {s : Size} (e : s ≡ Total n) where
   unfolding judged
   total-not-above h = rw (e, le-ltb k n h)
 
+-- what the rules say of k octets gathered, and what makes them kept
+module _ (F : Family) (limit : ℕ) (part : List ℕ) (k : ℕ) where
+  pub gathers-told : stateFollows F limit part (Gathering k) ≡ true
+      → (k < limit) × (k ≤ length part) × (judged limit k (F .size (take k part)) ≡ true)
+  unfolding stateFollows
+  gathers-told e =
+      let t = both (ltb k limit && leb k (length part)) (judged limit k (F .size (take k part))) e in
+      let u = both (ltb k limit) (leb k (length part)) (t .0) in
+      (ltb-true k limit (u .0), leb-true k (length part) (u .1), t .1)
+
+  pub gathers-from : k < limit → k ≤ length part → judged limit k (F .size (take k part)) ≡ true
+      → stateFollows F limit part (Gathering k) ≡ true
+  unfolding stateFollows
+  gathers-from h l j = and (and (lt-ltb k limit h) (le-leb k (length part) l)) j
+
+  -- fewer octets than the limit, all in the part, are judged by the size that they tell
+  pub gathers-below : k < limit → k ≤ length part → judged limit k (F .size (take k part)) ≡ stateFollows F limit part (Gathering k)
+  unfolding stateFollows
+  gathers-below h l = rw (lt-ltb k limit h, le-leb k (length part) l)
+
+  pub gathers-above : limit ≤ k → false ≡ stateFollows F limit part (Gathering k)
+  unfolding stateFollows
+  gathers-above h = rw (le-ltb k limit h)
+
+  pub gathers-short : k < limit → length part < k → false ≡ stateFollows F limit part (Gathering k)
+  unfolding stateFollows
+  gathers-short h l = rw (lt-ltb k limit h, lt-leb k (length part) l)
+
+pub part-has-room : Part-has-room
+part-has-room F limit k part l = go (decLt k limit)
+  where
+    go : Dec (k < limit) → stateFollows F limit part (Gathering k) ≡ (ltb k limit && judged limit k (F .size (take k part)))
+    go (yes h) = sym (gathers-below F limit part k h (omega arith)) ∙ rw (lt-ltb k limit h)
+    go (no h) = sym (gathers-above F limit part k (omega arith)) ∙ rw (le-ltb k limit (omega arith))
+
 module _ (F : Family) (limit : ℕ) (part : List ℕ) {s : State} where
-  -- fewer octets than the limit are judged by the size that they tell
-  pub gathers-below : (k : ℕ) → s ≡ Gathering k → k < limit → judged limit k (F .size (take k part)) ≡ stateFollows F limit part s
-  unfolding stateFollows
-  gathers-below k e h = rw (e, lt-ltb k limit h)
-
-  pub gathers-above : (k : ℕ) → s ≡ Gathering k → limit ≤ k → false ≡ stateFollows F limit part s
-  unfolding stateFollows
-  gathers-above k e h = rw (e, le-ltb k limit h)
-
   -- 1 octet or more to skip, up to the format's most
   pub skips-none : (r : ℕ) → s ≡ Skipping r → r < 1 → false ≡ stateFollows F limit part s
   unfolding stateFollows
@@ -67,15 +104,15 @@ module _ (F : Family) (limit : ℕ) (store : List ℕ) (cs : List Channel) (v : 
   unfolding allFollow
   follow-end h = rw (drop-of-length-le cs h)
 
-  module _ (at : ℕ) (d : Channel) (b : Bool) (h : v < length cs) (e : at ≡ placeOf limit v)
-      (f : b ≡ channelFollows F limit (take (at + limit - at) (drop at store)) (getD cs v d)) where
+  module _ (place at end : ℕ) (d : Channel) (b : Bool) (h : v < length cs) (e : place ≡ partPlace limit v) (ea : at ≡ min place (length store))
+      (ee : end ≡ min (place + limit) (length store)) (f : b ≡ channelFollows F limit (take (end - at) (drop at store)) (getD cs v d)) where
     pub follow-next : b ≡ true → allFollow F limit store v (drop v cs) ≡ allFollow F limit store (v + 1) (drop (v + 1) cs)
     unfolding allFollow
-    follow-next t = rw (add-one v, drop-cons cs v d h, ← cut-part limit v at store e, ← f, t)
+    follow-next t = rw (add-one v, drop-cons cs v d h, ← short-part limit v place at end store e ea ee, ← f, t)
 
     pub follow-stop : b ≡ false → allFollow F limit store v (drop v cs) ≡ false
     unfolding allFollow
-    follow-stop t = rw (drop-cons cs v d h, ← cut-part limit v at store e, ← f, t)
+    follow-stop t = rw (drop-cons cs v d h, ← short-part limit v place at end store e ea ee, ← f, t)
 
 pub fresh-follows : Fresh-follows
 unfolding recordFollows allFollow channelFollows hunts

@@ -19,7 +19,7 @@ use Rattle.channel.specs.declared.state.State.{State}
 use Rattle.channel.specs.declared.state.State.the-variants.{Hunting, Gathering, Skipping}
 use Rattle.channel.specs.Rules.{judged, stateFollows, hunts, channelFollows}
 use Rattle.channel.specs.Theorems.{InWords, Rules-in-words}
-use Rattle.channel.proofs.RuleLaws.{both, and}
+use Rattle.channel.proofs.RuleLaws.{both, and, gathers-told, gathers-from}
 
 -- what the size of k held octets must be, in words
 Held : ℕ → ℕ → List ℕ → Type 0
@@ -52,7 +52,7 @@ held limit k p e = first (ℕ-discrete k 0)
 
 -- what k octets gathered must be, and what a state must be, in words
 Gathers : ℕ → List ℕ → ℕ → Type 0
-Gathers limit part k = (k < limit) × Held limit k (take k part)
+Gathers limit part k = (k < limit) × (k ≤ length part) × Held limit k (take k part)
 
 Keeps : ℕ → List ℕ → State → Type 0
 Keeps limit part s = ((k : ℕ) → s ≡ Gathering k → Gathers limit part k) × ((r : ℕ) → s ≡ Skipping r → (1 ≤ r) × (r ≤ 65536))
@@ -73,15 +73,13 @@ gathering-same e = cc
 skipping-same : {r m : ℕ} → Skipping r ≡ Skipping m → m ≡ r
 skipping-same e = cc
 
-module _ (limit : ℕ) (part : List ℕ) (l : limit ≤ length part) where
+module _ (limit : ℕ) (part : List ℕ) where
   gathers : (k : ℕ) → stateFollows source limit part (Gathering k) ≡ true ↔ Gathers limit part k
-  unfolding stateFollows Gathers
+  unfolding Gathers
   gathers k = (
-    λ t. let u = both (ltb k limit) (judged limit k (sizeOf (take k part))) t in
-        let h : k < limit = ltb-true k limit (u .0) in
-        (h, held limit k (take k part) (length-take-le k part (omega arith)) .0 (u .1)),
-    λ w. let h = w .0 in
-        and (lt-ltb k limit h) (held limit k (take k part) (length-take-le k part (omega arith)) .1 (w .1)),
+    λ t. let u = gathers-told source limit part k t in
+        (u .0, u .1, held limit k (take k part) (length-take-le k part (u .1)) .0 (u .2)),
+    λ w. gathers-from source limit part k (w .0) (w .1) (held limit k (take k part) (length-take-le k part (w .1)) .1 (w .2)),
   )
 
   keeps : (s : State) → stateFollows source limit part s ≡ true ↔ Keeps limit part s
@@ -105,7 +103,7 @@ hunting (Skipping r) = (λ t. absurd (false≢true t), λ e. hunting-skipping e 
 
 pub rules-in-words : Rules-in-words
 unfolding channelFollows stateFollows Keeps Gathers Held
-rules-in-words limit part c l = go (c .heard) refl
+rules-in-words limit part c = go (c .heard) refl
   where
     s : State
     s = c .state
@@ -115,17 +113,18 @@ rules-in-words limit part c l = go (c .heard) refl
         record {
           unheard = f;
           gathering = λ n e. k .0 n e .0;
-          version = λ n e. k .0 n e .1 .0;
-          total = λ n e. k .0 n e .1 .1;
+          there = λ n e. k .0 n e .1;
+          version = λ n e. k .0 n e .2 .0;
+          total = λ n e. k .0 n e .2 .1;
           skipping = k .1;
         }
 
     go : (b : Bool) → c .heard ≡ b → pick b (stateFollows source limit part s) (hunts s) ≡ true ↔ InWords limit part c
     go true h = (
-      λ t. words (λ f. absurd (false≢true (sym f ∙ h))) (keeps limit part l s .0 t),
-      λ w. keeps limit part l s .1 (λ k e. (w .gathering k e, (w .version k e, w .total k e)), w .skipping),
+      λ t. words (λ f. absurd (false≢true (sym f ∙ h))) (keeps limit part s .0 t),
+      λ w. keeps limit part s .1 (λ k e. (w .gathering k e, w .there k e, (w .version k e, w .total k e)), w .skipping),
     )
     go false h = (
-      λ t. let z : s ≡ Hunting = hunting s .0 t in words (λ f. z) (keeps limit part l s .0 (rw z)),
+      λ t. let z : s ≡ Hunting = hunting s .0 t in words (λ f. z) (keeps limit part s .0 (rw z)),
       λ w. hunting s .1 (w .unheard h),
     )

@@ -3,7 +3,7 @@ use mathlib.Core.Bool.{Bool, true, false, _&&_}
 use mathlib.Core.List.{List, [], _∷_}
 use Prim.Native.Nat.{ℕ, suc}
 use lib.Dec.{ltb, leb}
-use lib.ListN.{take}
+use lib.ListN.{length, take}
 use Rattle.octets.specs.Pick.{pick}
 use Rattle.packet.specs.Family.{Family}
 use Rattle.packet.specs.declared.source.Size.{Size}
@@ -20,10 +20,11 @@ judged limit k Wait = true
 judged limit k Foreign = false
 judged limit k (Total n) = ltb k n && leb n limit
 
--- "hunting, gathering k octets (0 to 4,095), or skipping r octets (1 to 65,536)"; "The k octets lie at the start of the channel's part"
+-- "hunting, gathering k octets (0 to 4,095), or skipping r octets (1 to 65,536)"; "The k octets lie at the start of the channel's part of
+-- the store", so that the part has that many
 unfoldable pub stateFollows : Family → ℕ → List ℕ → State → Bool
 stateFollows F limit part Hunting = true
-stateFollows F limit part (Gathering k) = ltb k limit && judged limit k (F .size (take k part))
+stateFollows F limit part (Gathering k) = ltb k limit && leb k (length part) && judged limit k (F .size (take k part))
 stateFollows F limit part (Skipping r) = leb 1 r && leb r (F .mostSkip)
 
 unfoldable pub hunts : State → Bool

@@ -1,7 +1,7 @@
--- A channel's record (01): "heard or not; last channel count; and one of hunting, gathering k octets, or skipping r octets".
+-- A channel's record (01): "heard or not; last channel count; and one of hunting, gathering k octets [..], or skipping r octets [..]".
 use mathlib.Core.Bool.{false}
 use lib.ListN.{replicate}
-use Rattle.frame.specs.Closing.{channels}
+use Rattle.frame.specs.Header.{channels}
 use Rattle.channel.specs.declared.state.Channel.{Channel}
 use Rattle.channel.specs.declared.state.Record.{Record}
 use Rattle.channel.specs.declared.state.State.the-variants.{Hunting}

@@ -4,7 +4,7 @@ use mathlib.Core.List.{List, _++_}
 use Prim.Native.Nat.{ℕ, _+_, _*_}
 use lib.Dec.{eqb, leb}
 use lib.ListN.{take, drop}
-use Rattle.frame.specs.Closing.{channels}
+use Rattle.frame.specs.Header.{channels}
 use Rattle.frame.specs.SetUp.{mostLength}
 
 -- "The holding store is exactly 32,768 octets, 4,096 for each channel in order."
@@ -16,13 +16,13 @@ unfoldable pub outputFits : ℕ → ℕ → Bool
 outputFits limit octets = leb (limit + mostLength) octets
 
 -- where a channel's part starts: "starting at 4,096 times its number"
-unfoldable pub placeOf : ℕ → ℕ → ℕ
-placeOf limit channel = limit * channel
+unfoldable pub partPlace : ℕ → ℕ → ℕ
+partPlace limit channel = limit * channel
 
 -- a channel's part of the store
 unfoldable pub partOf : ℕ → ℕ → List ℕ → List ℕ
-partOf limit channel store = take limit (drop (placeOf limit channel) store)
+partOf limit channel store = take limit (drop (partPlace limit channel) store)
 
 -- the store with another part for a channel
 unfoldable pub withPart : ℕ → ℕ → List ℕ → List ℕ → List ℕ
-withPart limit channel store part = take (placeOf limit channel) store ++ part ++ drop (placeOf limit channel + limit) store
+withPart limit channel store part = take (partPlace limit channel) store ++ part ++ drop (partPlace limit channel + limit) store

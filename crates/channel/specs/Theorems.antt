@@ -1,20 +1,21 @@
 -- What is proved of records, the store and the busy mask besides the functions' contracts. The proofs are in proofs/Laws.antt, under these
 -- names in lower case.
 use mathlib.Core.Path.{_≡_}
-use mathlib.Core.Bool.{true, false}
+use mathlib.Core.Bool.{true, false, _&&_}
 use mathlib.Core.List.{List}
 use mathlib.Core.Logic.{_↔_}
 use Prim.Native.Nat.{ℕ, _*_, _/_, _%_, _^_, _≤_, _<_}
+use lib.Dec.{ltb}
 use lib.ListN.{length, getD, take}
 use Rattle.octets.specs.Pick.{pick}
 use Rattle.packet.specs.Family.{Family}
 use Rattle.packet.specs.Size.{versionOf, totalOf, source}
-use Rattle.frame.specs.Closing.{channels}
+use Rattle.frame.specs.Header.{channels}
 use Rattle.channel.specs.declared.state.Channel.{Channel}
 use Rattle.channel.specs.declared.state.Record.{Record}
 use Rattle.channel.specs.declared.state.State.the-variants.{Hunting, Gathering, Skipping}
 use Rattle.channel.specs.Busy.{busyChannel, maskOf, lowestOf}
-use Rattle.channel.specs.Rules.{channelFollows, recordFollows}
+use Rattle.channel.specs.Rules.{judged, stateFollows, channelFollows, recordFollows}
 use Rattle.channel.specs.State.{freshChannel, freshRecord}
 use Rattle.channel.specs.Store.{partOf, withPart}
 
@@ -24,6 +25,8 @@ pub record InWords (limit : ℕ) (part : List ℕ) (c : Channel) : Type 0 where
   pub unheard : c .heard ≡ false → c .state ≡ Hunting
   -- "gathering k octets (0 to 4,095)"
   pub gathering : (k : ℕ) → c .state ≡ Gathering k → k < limit
+  -- "The k octets lie at the start of the channel's part of the store."
+  pub there : (k : ℕ) → c .state ≡ Gathering k → k ≤ length part
   -- "If k is 1 or more, the first has version 000"
   pub version : (k : ℕ) → c .state ≡ Gathering k → 1 ≤ k → versionOf (take k part) ≡ 0
   -- "if k is 6 or more, the total told by the header is above k and at most 4,096"
@@ -33,8 +36,12 @@ pub record InWords (limit : ℕ) (part : List ℕ) (c : Channel) : Type 0 where
 
 -- these rules and no more
 abbrev pub Rules-in-words : Type 0
-Rules-in-words = (limit : ℕ) (part : List ℕ) (c : Channel) → limit ≤ length part
-    → channelFollows source limit part c ≡ true ↔ InWords limit part c
+Rules-in-words = (limit : ℕ) (part : List ℕ) (c : Channel) → channelFollows source limit part c ≡ true ↔ InWords limit part c
+
+-- a part of full length has room for whatever a channel gathers
+abbrev pub Part-has-room : Type 0
+Part-has-room = (F : Family) (limit k : ℕ) (part : List ℕ) → limit ≤ length part
+    → stateFollows F limit part (Gathering k) ≡ (ltb k limit && judged limit k (F .size (take k part)))
 
 -- a record keeps the rules exactly when each of its channels does
 abbrev pub Each-follows : Type 0

@@ -6,22 +6,20 @@ use frame::Header;
 use packet::Packet;
 use packet::Size;
 ghost use mathlib.Core.Path.{_≡_};
-ghost use Prim.Native.Nat.{_*_, _≤_};
 ghost use lib.ListN.{length};
-ghost use Rattle.frame.specs.Closing.{channels};
-ghost use Rattle.packet.specs.Size.{most, source};
+ghost use Rattle.packet.specs.Size.{most, sizeOf, source};
 ghost use Rattle.channel.specs.Rules.{judged, stateFollows, channelFollows, recordFollows};
 
-// What the size that k held octets tell must be.
-fn held_follows(k: usize, size: Size) -> bool
-    ensures { λ r. ⌜ r ≡ judged most k size ⌝ }
+// What the held octets must tell.
+fn held_follows(held: &[u8]) -> bool
+    ensures { λ r. ⌜ r ≡ judged most (length (now (held .entry))) (sizeOf (now (held .entry))) ⌝ }
 {
-    match size {
+    match Packet::size(held) {
         Size::Wait => true,
         Size::Foreign => false,
         Size::Total(total) => {
-            if k < total {
-                total <= Packet::MAX
+            if held.len() < total {
+                Packet::fits(total)
             } else {
                 false
             }
@@ -29,19 +27,25 @@ fn held_follows(k: usize, size: Size) -> bool
     }
 }
 
+// The k octets gathered lie at the start of the part.
+fn gathering_follows(k: usize, part: &[u8]) -> bool
+    ensures { λ r. ⌜ r ≡ stateFollows source most (now (part .entry)) (State.Gathering k) ⌝ }
+{
+    if Packet::MAX <= k {
+        return false;
+    }
+    if part.len() < k {
+        return false;
+    }
+    held_follows(&part[..k])
+}
+
 fn state_follows(state: State, part: &[u8]) -> bool
-    requires { ⌜ most ≤ length (now part) ⌝ }
     ensures { λ r. ⌜ r ≡ stateFollows source most (now (part .entry)) state ⌝ }
 {
     match state {
         State::Hunting => true,
-        State::Gathering(k) => {
-            if k < Packet::MAX {
-                held_follows(k, Packet::size(&part[..k]))
-            } else {
-                false
-            }
-        }
+        State::Gathering(k) => gathering_follows(k, part),
         State::Skipping(r) => {
             if r < 1 {
                 false
@@ -53,7 +57,6 @@ fn state_follows(state: State, part: &[u8]) -> bool
 }
 
 fn channel_follows(channel: Channel, part: &[u8]) -> bool
-    requires { ⌜ most ≤ length (now part) ⌝ }
     ensures { λ r. ⌜ r ≡ channelFollows source most (now (part .entry)) channel ⌝ }
 {
     let state = channel.state;
@@ -68,15 +71,15 @@ fn channel_follows(channel: Channel, part: &[u8]) -> bool
     }
 }
 
-// The record keeps the rules, all eight channels (test 4).
+// The record keeps the rules, all eight channels (test 4). In a store that is too short, parts are shorter or empty.
 pub fn follows(rec: Record, store: &[u8]) -> bool
-    requires { ⌜ length (now store) ≡ most * channels ⌝ }
     ensures { λ r. ⌜ r ≡ recordFollows source most (now (store .entry)) rec ⌝ }
 {
     let mut v = 0;
     while v < Header::CHANNELS {
-        let at = Store::place(v);
-        let end = at + Store::PART;
+        let place = Store::place(v);
+        let at = octets::lesser(place, store.len());
+        let end = octets::lesser(place + Store::PART, store.len());
         let channel = rec.channels[v];
         if !channel_follows(channel, &store[at..end]) {
             return false;

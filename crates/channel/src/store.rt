@@ -3,8 +3,8 @@ use frame::SetUp;
 use packet::Packet;
 ghost use mathlib.Core.Path.{_≡_};
 ghost use Prim.Native.Nat.{_<_};
-ghost use Rattle.channel.specs.Store.{placeOf, storeFits, outputFits};
-ghost use Rattle.frame.specs.Closing.{channels};
+ghost use Rattle.channel.specs.Store.{partPlace, storeFits, outputFits};
+ghost use Rattle.frame.specs.Header.{channels};
 ghost use Rattle.packet.specs.Size.{most};
 
 // The holding store: a part for each channel in order.
@@ -24,7 +24,7 @@ impl Store {
     // Where the part of a channel starts.
     pub fn place(channel: usize) -> usize
         requires { ⌜ channel < channels ⌝ }
-        ensures { λ r. ⌜ r ≡ placeOf most channel ⌝ }
+        ensures { λ r. ⌜ r ≡ partPlace most channel ⌝ }
     {
         Store::PART * channel
     }

@@ -15,8 +15,7 @@ use Rattle.packet.specs.declared.source.Size.the-variants.{Wait, Foreign, Total
 use Rattle.channel.specs.declared.state.State.{State}
 use Rattle.channel.specs.declared.state.State.the-variants.{Gathering, Skipping}
 use Rattle.walk.specs.declared.walking.End.{End}
-use Rattle.walk.specs.Steps.{Done, ended, endedBy}
-use Rattle.walk.specs.Walk.{Walked, cutOf, walkOf}
+use Rattle.walk.specs.Walk.{Done, ended, endedBy, Walked, cutOf, walkOf}
 use Rattle.walk.proofs.WalkLaws.{walk-stop, walk-whole, sees-end, sees-few, sees-oversize, sees-packet, sees-cut}
 
 -- the beginning of a packet tells nothing yet, or the packet's length

@@ -12,10 +12,10 @@ use lib.Seq.{drop-at}
 use Rattle.packet.specs.Family.{Family, Whole, AllWhole}
 use Rattle.packet.specs.Theorems.{endToEnd}
 use Rattle.packet.specs.declared.source.Size.the-variants.{Wait, Total}
-use Rattle.walk.specs.Theorems.{Sound}
+use Rattle.walk.specs.Theorems.{Roomy}
 use Rattle.channel.specs.declared.state.State.{State}
-use Rattle.walk.specs.Steps.{ended, hunted, calledAt, agrees, skipped, resumed}
-use Rattle.walk.specs.Walk.{walkOf}
+use Rattle.walk.specs.Steps.{hunted, calledAt, agrees, skipped, resumed}
+use Rattle.walk.specs.Walk.{ended, walkOf}
 use Rattle.demands.specs.History.{lastIn}
 use Rattle.demands.specs.Sender.{Mark, inner}
 use Rattle.demands.proofs.Aligned.{AllFit, begin-tells, fit-of}
@@ -37,7 +37,7 @@ record Full (F : Family) (limit : ℕ) (came : List Bool) (q field : List ℕ) (
   rest-late : lastIn limit (length came) (length came + length field) (came ++ replicate (length field) true) (length came + length q + length (endToEnd ws)) r
       ≡ []
 
-module _ {F : Family} {limit : ℕ} (G : Sound F limit)
+module _ {F : Family} {limit : ℕ} (G : Roomy F limit)
     {tail : List ℕ} {ps : List (List ℕ)} {came : List Bool} {q : List ℕ} {behind : List (List ℕ)} (w : AllWhole F ps)
     (s : Spot tail ps came q behind) (field : List ℕ) (few : length field ≤ 2042) where
   ends-full : (ws behind′ : List (List ℕ)) → behind ≡ ws ++ behind′ → field ≡ q ++ endToEnd ws
@@ -77,12 +77,12 @@ module _ {F : Family} {limit : ℕ} (G : Sound F limit)
         let y = whole-right F ws ((begun ++ left) ∷ behind′) v in y .0
 
 -- a packet that ends in this field is not too long, if its held octets did not tell otherwise
-within : {F : Family} {limit : ℕ} (G : Sound F limit) (held q : List ℕ) → (length (held ++ q) ≤ limit) ⊎ (F .size held ≡ Wait) → length q ≤ 2042
+within : {F : Family} {limit : ℕ} (G : Roomy F limit) (held q : List ℕ) → (length (held ++ q) ≤ limit) ⊎ (F .size held ≡ Wait) → length q ≤ 2042
     → length (held ++ q) ≤ limit
 within G held q (inl h) j = h
 within G held q (inr h) j = omega (arith, G .laws .header-tells held h, length-append held q)
 
-module _ {F : Family} {limit : ℕ} (G : Sound F limit)
+module _ {F : Family} {limit : ℕ} (G : Roomy F limit)
     {tail : List ℕ} {ps : List (List ℕ)} {came : List Bool} {q : List ℕ} {behind : List (List ℕ)} {rest : List Mark} (w : AllWhole F ps)
     (field : List ℕ) (some : 1 ≤ length field) (few : length field ≤ 2042) (pointer : ℕ)
     (points : pointer ≡ calledAt (length field) (length q)) where

@@ -10,7 +10,8 @@ use lib.ListN.{length, take, set, replicate}
 use Rattle.octets.specs.Laid.{laid}
 use Rattle.octets.proofs.Laws.{length-laid}
 use Rattle.octets.proofs.Runs.{laid-nil}
-use Rattle.octets.specs.Numbers.{numberAt, bitsAt, octetsOf, packed}
+use Rattle.octets.specs.Layout as layout
+use Rattle.octets.specs.Numbers.{numberAt, bitsAt, octetsOf}
 use Rattle.packet.specs.Chain.{wholeIn, frontOf, chainIn, chainOf, distanceIn, distanceOf}
 use Rattle.packet.specs.Size.{idleOf, sizeOf, most, source}
 use Rattle.frame.specs.Closing.{row20, row25, flaggedBy, wordOctets, headerOctets, closeSize, withCheck, frameAround}
@@ -20,7 +21,7 @@ use Rattle.frame.specs.Opening.{row1, row5, row6, row7, row8, row9, row10, row1
 use Rattle.frame.specs.SetUp.{fitsOf}
 use Rattle.frame.specs.declared.closing.ControlWord.{ControlWord}
 use Rattle.frame.specs.declared.set_up.SetUp.{SetUp}
-use Rattle.frame.specs.Table.{firstCause}
+use Rattle.table.specs.Table.{firstCause}
 use Rattle.channel.specs.Busy.{busyState}
 use Rattle.channel.specs.Rules.{recordFollows, allFollow, channelFollows, stateFollows, hunts, judged}
 use Rattle.channel.specs.State.{freshChannel, freshRecord}
@@ -34,26 +35,26 @@ use Rattle.reader.specs.Answers as reading
 use Rattle.reader.specs.declared.reading.Answer.{Answer}
 use Rattle.reader.specs.declared.reading.Answer.the-variants.{Refused, Accepted}
 use Rattle.reader.specs.Reading as read
-use Rattle.walk.specs.Steps.{stepsOf, carriesNone, gapFor, hunted, endedBy, courseOf, resumed, gathered, agrees, agreesBy, calledAt}
-use Rattle.walk.specs.Walk.{walkOf, turns, turn, seenOf, front, cutOf, talliedAll, tallied, handed, handedAll}
+use Rattle.walk.specs.Steps.{stepsOf, carriesNone, gapFor, hunted, courseOf, resumed, gathered, agrees, agreesBy, calledAt}
+use Rattle.walk.specs.Walk.{endedBy, walkOf, turns, turn, seenOf, front, cutOf, talliedAll, tallied, handed, handedAll}
 use Rattle.writer.specs.Answers as writing
 use Rattle.writer.specs.Laying.{idlePacket, leftPart, runPart, placedPart, fillerOf, leftAfter, fieldOf, leftOverAfter, pointerOf, nothingOf}
 use Rattle.writer.specs.Writing as write
 use Rattle.writer.specs.declared.writing.Place.{Place}
-use Rattle.demands.specs.Bench.{bench, placeOf, run, frame1, frame2, frame3, written, told, values, benchOf, number, writingNumber, finished, heardAt, Bench}
+use Rattle.demands.specs.Bench.{bench, benchPlace, run, frame1, frame2, frame3, written, told, values, benchOf, number, writingNumber, packetsFinished, heardAt, Bench}
 use Rattle.demands.proofs.FewEnough.{few-enough}
 
 -- the writings
-b1 : (w : List ℕ) → length w ≡ 20 → written (placeOf 0 9 4) run w ≡ 0 ∷ 8 ∷ 1 ∷ 10 ∷ 5 ∷ frame1
-unfolding write.answerOf write.nextOf write.outputOf write.writeTable write.nextPlace write.frameWritten write.row21 write.row22 write.row23 write.row24 row1 fitsOf row20 row25 firstCause chainOf chainIn frontOf wholeIn sizeOf bitsAt numberAt distanceOf distanceIn flaggedBy wordOctets headerOctets closeSize withCheck frameAround packed octetsOf after idlePacket leftPart runPart placedPart fillerOf leftAfter fieldOf leftOverAfter pointerOf nothingOf writing.valuesOf
+b1 : (w : List ℕ) → length w ≡ 20 → written (benchPlace 0 9 4) run w ≡ 0 ∷ 8 ∷ 1 ∷ 10 ∷ 5 ∷ frame1
+unfolding write.answerOf write.nextOf write.outputOf write.writeTable write.nextPlace write.frameWritten write.row21 write.row22 write.row23 write.row24 row1 fitsOf row20 row25 firstCause chainOf chainIn frontOf wholeIn sizeOf layout.valueIn layout.firstAmong layout.widthAmong layout.bitsFrom bitsAt numberAt distanceOf distanceIn flaggedBy wordOctets headerOctets closeSize dataSize withCheck frameAround layout.numbered layout.laidOut layout.octetsIn layout.bitsTogether octetsOf after idlePacket leftPart runPart placedPart fillerOf leftAfter fieldOf leftOverAfter pointerOf nothingOf writing.valuesOf
 b1 w h = rw h
 
-b2 : (w : List ℕ) → length w ≡ 20 → written (placeOf 1 10 5) [] w ≡ 0 ∷ 0 ∷ 0 ∷ 11 ∷ 6 ∷ frame2
-unfolding write.answerOf write.nextOf write.outputOf write.writeTable write.nextPlace write.frameWritten write.row21 write.row22 write.row23 write.row24 row1 fitsOf row20 row25 firstCause chainOf chainIn frontOf wholeIn sizeOf bitsAt numberAt distanceOf distanceIn flaggedBy wordOctets headerOctets closeSize withCheck frameAround packed octetsOf after idlePacket leftPart runPart placedPart fillerOf leftAfter fieldOf leftOverAfter pointerOf nothingOf writing.valuesOf
+b2 : (w : List ℕ) → length w ≡ 20 → written (benchPlace 1 10 5) [] w ≡ 0 ∷ 0 ∷ 0 ∷ 11 ∷ 6 ∷ frame2
+unfolding write.answerOf write.nextOf write.outputOf write.writeTable write.nextPlace write.frameWritten write.row21 write.row22 write.row23 write.row24 row1 fitsOf row20 row25 firstCause chainOf chainIn frontOf wholeIn sizeOf layout.valueIn layout.firstAmong layout.widthAmong layout.bitsFrom bitsAt numberAt distanceOf distanceIn flaggedBy wordOctets headerOctets closeSize dataSize withCheck frameAround layout.numbered layout.laidOut layout.octetsIn layout.bitsTogether octetsOf after idlePacket leftPart runPart placedPart fillerOf leftAfter fieldOf leftOverAfter pointerOf nothingOf writing.valuesOf
 b2 w h = rw h
 
-b3 : (w : List ℕ) → length w ≡ 20 → written (placeOf 0 11 6) [] w ≡ 0 ∷ 0 ∷ 0 ∷ 12 ∷ 7 ∷ frame3
-unfolding write.answerOf write.nextOf write.outputOf write.writeTable write.nextPlace write.frameWritten write.row21 write.row22 write.row23 write.row24 row1 fitsOf row20 row25 firstCause chainOf chainIn frontOf wholeIn sizeOf bitsAt numberAt distanceOf distanceIn flaggedBy wordOctets headerOctets closeSize withCheck frameAround packed octetsOf after idlePacket leftPart runPart placedPart fillerOf leftAfter fieldOf leftOverAfter pointerOf nothingOf writing.valuesOf
+b3 : (w : List ℕ) → length w ≡ 20 → written (benchPlace 0 11 6) [] w ≡ 0 ∷ 0 ∷ 0 ∷ 12 ∷ 7 ∷ frame3
+unfolding write.answerOf write.nextOf write.outputOf write.writeTable write.nextPlace write.frameWritten write.row21 write.row22 write.row23 write.row24 row1 fitsOf row20 row25 firstCause chainOf chainIn frontOf wholeIn sizeOf layout.valueIn layout.firstAmong layout.widthAmong layout.bitsFrom bitsAt numberAt distanceOf distanceIn flaggedBy wordOctets headerOctets closeSize dataSize withCheck frameAround layout.numbered layout.laidOut layout.octetsIn layout.bitsTogether octetsOf after idlePacket leftPart runPart placedPart fillerOf leftAfter fieldOf leftOverAfter pointerOf nothingOf writing.valuesOf
 b3 w h = rw h
 
 -- what passes tests 2, 3 and 4
@@ -64,7 +65,7 @@ pub record Passes (rec : Record) (store out : List ℕ) : Type 0 where
 
 -- the first reading
 told1 : (store out : List ℕ) → Passes freshRecord store out → told freshRecord store out frame1 ≡ values 1 9 4 0 0 1 0 0
-unfolding read.answerOver read.readTableOver read.kindOf read.reportOf row1 fitsOf frameTable row5 row6 row7 row8 row9 row10 row11 row12 secondarySize dataSize wordOf frameOf headerOf firstCause bitsAt numberAt stepsOf carriesNone gapFor gapOf hunted endedBy courseOf walkOf turns turn seenOf front cutOf sizeOf idleOf talliedAll tallied reading.valuesOf resumed
+unfolding read.answerOver read.readTableOver read.kindOf read.reportOf row1 fitsOf frameTable row5 row6 row7 row8 row9 row10 row11 row12 secondarySize dataSize wordOf frameOf headerOf layout.valueIn layout.firstAmong layout.widthAmong layout.bitsFrom firstCause bitsAt numberAt stepsOf carriesNone gapFor gapOf hunted endedBy courseOf walkOf turns turn seenOf front cutOf sizeOf idleOf talliedAll tallied reading.valuesOf resumed
 told1 store out p = rw (p .store-fits, p .output-fits, p .follows)
 
 -- what it leaves: channel 3 heard, with the first six octets of a filler packet held
@@ -85,15 +86,15 @@ storeAfter store = withPart most 3 store (partAfter store)
 
 record1 : (store out : List ℕ) → Passes freshRecord store out
     → read.recordOf bench freshRecord store out frame1 ≡ recordAfter 4 (Gathering 6)
-unfolding read.recordOver read.readTableOver read.recordAfter row1 fitsOf frameTable row5 row6 row7 row8 row9 row10 row11 row12 secondarySize dataSize wordOf frameOf headerOf firstCause bitsAt numberAt stepsOf carriesNone gapFor gapOf hunted endedBy courseOf walkOf turns turn seenOf front cutOf sizeOf idleOf talliedAll tallied resumed recordAfter channelAfter
+unfolding read.recordOver read.readTableOver read.recordAfter row1 fitsOf frameTable row5 row6 row7 row8 row9 row10 row11 row12 secondarySize dataSize wordOf frameOf headerOf layout.valueIn layout.firstAmong layout.widthAmong layout.bitsFrom firstCause bitsAt numberAt stepsOf carriesNone gapFor gapOf hunted endedBy courseOf walkOf turns turn seenOf front cutOf sizeOf idleOf talliedAll tallied resumed recordAfter channelAfter
 record1 store out p = rw (p .store-fits, p .output-fits, p .follows)
 
 store1 : (store out : List ℕ) → Passes freshRecord store out → read.storeOf bench freshRecord store out frame1 ≡ storeAfter store
-unfolding read.storeOver read.readTableOver read.storeAfter row1 fitsOf frameTable row5 row6 row7 row8 row9 row10 row11 row12 secondarySize dataSize wordOf frameOf headerOf firstCause bitsAt numberAt stepsOf carriesNone gapFor gapOf hunted endedBy courseOf walkOf turns turn seenOf front cutOf sizeOf idleOf talliedAll tallied resumed storeAfter partAfter held
+unfolding read.storeOver read.readTableOver read.storeAfter row1 fitsOf frameTable row5 row6 row7 row8 row9 row10 row11 row12 secondarySize dataSize wordOf frameOf headerOf layout.valueIn layout.firstAmong layout.widthAmong layout.bitsFrom firstCause bitsAt numberAt stepsOf carriesNone gapFor gapOf hunted endedBy courseOf walkOf turns turn seenOf front cutOf sizeOf idleOf talliedAll tallied resumed storeAfter partAfter held
 store1 store out p = rw (p .store-fits, p .output-fits, p .follows)
 
 output1 : (store out : List ℕ) → Passes freshRecord store out → take 8 (read.outputOf bench freshRecord store out frame1) ≡ run
-unfolding read.outputOver read.readTableOver read.outputAfter row1 fitsOf frameTable row5 row6 row7 row8 row9 row10 row11 row12 secondarySize dataSize wordOf frameOf headerOf firstCause bitsAt numberAt stepsOf carriesNone gapFor gapOf hunted endedBy courseOf walkOf turns turn seenOf front cutOf sizeOf idleOf talliedAll tallied handed handedAll resumed laid
+unfolding read.outputOver read.readTableOver read.outputAfter row1 fitsOf frameTable row5 row6 row7 row8 row9 row10 row11 row12 secondarySize dataSize wordOf frameOf headerOf layout.valueIn layout.firstAmong layout.widthAmong layout.bitsFrom firstCause bitsAt numberAt stepsOf carriesNone gapFor gapOf hunted endedBy courseOf walkOf turns turn seenOf front cutOf sizeOf idleOf talliedAll tallied handed handedAll resumed laid
 output1 store out p = rw (p .store-fits, p .output-fits, p .follows)
 
 module _ (store : List ℕ) (h : length store ≡ most * 8) where
@@ -113,23 +114,23 @@ module _ (store : List ℕ) (h : length store ≡ most * 8) where
 
   -- the record and the store after the first reading pass, and after the second
   passes-after : (out : List ℕ) → outputFits most (length out) ≡ true → Passes (recordAfter 4 (Gathering 6)) (storeAfter store) out
-  unfolding recordAfter channelAfter held storeFits recordFollows allFollow channelFollows stateFollows hunts judged sizeOf bitsAt numberAt
+  unfolding recordAfter channelAfter held storeFits recordFollows allFollow channelFollows stateFollows hunts judged sizeOf layout.valueIn layout.bitsFrom layout.firstAmong layout.widthAmong bitsAt numberAt
   passes-after out o = record {
     store-fits = rw store-after-length;
     output-fits = o;
-    follows = rw held-there;
+    follows = rw (held-there, part-inside most 3 (storeAfter store) store-after-length (omega arith));
   }
 
   told2 : (out : List ℕ) → outputFits most (length out) ≡ true
       → told (recordAfter 4 (Gathering 6)) (storeAfter store) out frame2 ≡ values 1 10 5 1 0 0 2 0
-  unfolding read.answerOver read.readTableOver read.kindOf read.reportOf row1 fitsOf frameTable row5 row6 row7 row8 row9 row10 row11 row12 secondarySize dataSize wordOf frameOf headerOf firstCause bitsAt numberAt stepsOf carriesNone gapFor gapOf hunted endedBy courseOf walkOf turns turn seenOf front cutOf sizeOf idleOf talliedAll tallied reading.valuesOf resumed gathered agrees agreesBy calledAt held recordAfter channelAfter
+  unfolding read.answerOver read.readTableOver read.kindOf read.reportOf row1 fitsOf frameTable row5 row6 row7 row8 row9 row10 row11 row12 secondarySize dataSize wordOf frameOf headerOf layout.valueIn layout.firstAmong layout.widthAmong layout.bitsFrom firstCause bitsAt numberAt stepsOf carriesNone gapFor gapOf hunted endedBy courseOf walkOf turns turn seenOf front cutOf sizeOf idleOf talliedAll tallied reading.valuesOf resumed gathered agrees agreesBy calledAt held recordAfter channelAfter
   told2 out o =
       let p = passes-after out o in
       rw (p .store-fits, p .output-fits, p .follows, held-there)
 
   record2 : (out : List ℕ) → outputFits most (length out) ≡ true
       → read.recordOf bench (recordAfter 4 (Gathering 6)) (storeAfter store) out frame2 ≡ recordAfter 5 (Gathering 0)
-  unfolding read.recordOver read.readTableOver read.recordAfter row1 fitsOf frameTable row5 row6 row7 row8 row9 row10 row11 row12 secondarySize dataSize wordOf frameOf headerOf firstCause bitsAt numberAt stepsOf carriesNone gapFor gapOf hunted endedBy courseOf walkOf turns turn seenOf front cutOf sizeOf idleOf talliedAll tallied resumed gathered agrees agreesBy calledAt held recordAfter channelAfter
+  unfolding read.recordOver read.readTableOver read.recordAfter row1 fitsOf frameTable row5 row6 row7 row8 row9 row10 row11 row12 secondarySize dataSize wordOf frameOf headerOf layout.valueIn layout.firstAmong layout.widthAmong layout.bitsFrom firstCause bitsAt numberAt stepsOf carriesNone gapFor gapOf hunted endedBy courseOf walkOf turns turn seenOf front cutOf sizeOf idleOf talliedAll tallied resumed gathered agrees agreesBy calledAt held recordAfter channelAfter
   record2 out o =
       let p = passes-after out o in
       rw (p .store-fits, p .output-fits, p .follows, held-there)
@@ -137,7 +138,7 @@ module _ (store : List ℕ) (h : length store ≡ most * 8) where
   store2 : (out : List ℕ) → outputFits most (length out) ≡ true
       → read.storeOf bench (recordAfter 4 (Gathering 6)) (storeAfter store) out frame2
       ≡ withPart most 3 (storeAfter store) (laid (partOf most 3 (storeAfter store)) 0 [])
-  unfolding read.storeOver read.readTableOver read.storeAfter row1 fitsOf frameTable row5 row6 row7 row8 row9 row10 row11 row12 secondarySize dataSize wordOf frameOf headerOf firstCause bitsAt numberAt stepsOf carriesNone gapFor gapOf hunted endedBy courseOf walkOf turns turn seenOf front cutOf sizeOf idleOf talliedAll tallied resumed gathered agrees agreesBy calledAt held recordAfter channelAfter
+  unfolding read.storeOver read.readTableOver read.storeAfter row1 fitsOf frameTable row5 row6 row7 row8 row9 row10 row11 row12 secondarySize dataSize wordOf frameOf headerOf layout.valueIn layout.firstAmong layout.widthAmong layout.bitsFrom firstCause bitsAt numberAt stepsOf carriesNone gapFor gapOf hunted endedBy courseOf walkOf turns turn seenOf front cutOf sizeOf idleOf talliedAll tallied resumed gathered agrees agreesBy calledAt held recordAfter channelAfter
   store2 out o =
       let p = passes-after out o in
       rw (p .store-fits, p .output-fits, p .follows, held-there)
@@ -153,20 +154,20 @@ module _ (store : List ℕ) (h : length store ≡ most * 8) where
   -- the third reading, with B2 and without
   told3 : (out : List ℕ) → outputFits most (length out) ≡ true
       → told (recordAfter 4 (Gathering 6)) (storeAfter store) out frame3 ≡ values 2 11 6 2046 1 0 0 1
-  unfolding read.answerOver read.readTableOver read.kindOf read.reportOf row1 fitsOf frameTable row5 row6 row7 row8 row9 row10 row11 row12 secondarySize dataSize wordOf frameOf headerOf firstCause bitsAt numberAt stepsOf carriesNone gapFor gapOf hunted endedBy courseOf walkOf turns turn seenOf front cutOf sizeOf idleOf talliedAll tallied reading.valuesOf resumed recordAfter channelAfter busyState
+  unfolding read.answerOver read.readTableOver read.kindOf read.reportOf row1 fitsOf frameTable row5 row6 row7 row8 row9 row10 row11 row12 secondarySize dataSize wordOf frameOf headerOf layout.valueIn layout.firstAmong layout.widthAmong layout.bitsFrom firstCause bitsAt numberAt stepsOf carriesNone gapFor gapOf hunted endedBy courseOf walkOf turns turn seenOf front cutOf sizeOf idleOf talliedAll tallied reading.valuesOf resumed recordAfter channelAfter busyState
   told3 out o =
       let p = passes-after out o in
       rw (p .store-fits, p .output-fits, p .follows)
 
 told3-behind : (store out : List ℕ) → length store ≡ most * 8 → outputFits most (length out) ≡ true
     → told (recordAfter 5 (Gathering 0)) store out frame3 ≡ values 2 11 6 2046 0 0 0 0
-unfolding read.answerOver read.readTableOver read.kindOf read.reportOf row1 fitsOf frameTable row5 row6 row7 row8 row9 row10 row11 row12 secondarySize dataSize wordOf frameOf headerOf firstCause bitsAt numberAt stepsOf carriesNone gapFor gapOf hunted endedBy courseOf walkOf turns turn seenOf front cutOf sizeOf idleOf talliedAll tallied reading.valuesOf resumed recordAfter channelAfter busyState storeFits recordFollows allFollow channelFollows stateFollows hunts judged
-told3-behind store out h o = rw (h, o)
+unfolding read.answerOver read.readTableOver read.kindOf read.reportOf row1 fitsOf frameTable row5 row6 row7 row8 row9 row10 row11 row12 secondarySize dataSize wordOf frameOf headerOf layout.valueIn layout.firstAmong layout.widthAmong layout.bitsFrom firstCause bitsAt numberAt stepsOf carriesNone gapFor gapOf hunted endedBy courseOf walkOf turns turn seenOf front cutOf sizeOf idleOf talliedAll tallied reading.valuesOf resumed recordAfter channelAfter busyState storeFits recordFollows allFollow channelFollows stateFollows hunts judged
+told3-behind store out h o = rw (h, o, part-inside most 3 store h (omega arith))
 
 -- B6 and B7
 pointed : (store out : List ℕ) → Passes freshRecord store out
     → (number bench freshRecord store out (set frame1 5 14) ≡ 12 ∷ []) × (number bench freshRecord store out (set frame1 5 13) ≡ 0 ∷ [])
-unfolding read.answerOver read.readTableOver read.kindOf read.reportOf row1 fitsOf frameTable row5 row6 row7 row8 row9 row10 row11 row12 secondarySize dataSize wordOf frameOf headerOf firstCause bitsAt numberAt stepsOf carriesNone gapFor gapOf hunted endedBy courseOf walkOf turns turn seenOf front cutOf sizeOf idleOf talliedAll tallied reading.valuesOf resumed
+unfolding read.answerOver read.readTableOver read.kindOf read.reportOf row1 fitsOf frameTable row5 row6 row7 row8 row9 row10 row11 row12 secondarySize dataSize wordOf frameOf headerOf layout.valueIn layout.firstAmong layout.widthAmong layout.bitsFrom firstCause bitsAt numberAt stepsOf carriesNone gapFor gapOf hunted endedBy courseOf walkOf turns turn seenOf front cutOf sizeOf idleOf talliedAll tallied reading.valuesOf resumed
 pointed store out p = (rw (p .store-fits, p .output-fits, p .follows), rw (p .store-fits, p .output-fits, p .follows))
 
 outside : (rec : Record) (store out f : List ℕ) → (number (benchOf 12) rec store out f ≡ 1 ∷ []) × (number (benchOf 2049) rec store out f ≡ 1 ∷ [])
@@ -181,7 +182,7 @@ outside-writing v p word r out = (refl, refl)
 -- B5
 told5 : (store out : List ℕ) → length store ≡ most * 8 → outputFits most (length out) ≡ true
     → told (heardAt 254) store out (set frame1 3 1) ≡ values 1 9 1 0 2 1 0 0
-unfolding read.answerOver read.readTableOver read.kindOf read.reportOf row1 fitsOf frameTable row5 row6 row7 row8 row9 row10 row11 row12 secondarySize dataSize wordOf frameOf headerOf firstCause bitsAt numberAt stepsOf carriesNone gapFor gapOf hunted endedBy courseOf walkOf turns turn seenOf front cutOf sizeOf idleOf talliedAll tallied reading.valuesOf resumed recordAfter channelAfter busyState storeFits recordFollows allFollow channelFollows stateFollows hunts judged
+unfolding read.answerOver read.readTableOver read.kindOf read.reportOf row1 fitsOf frameTable row5 row6 row7 row8 row9 row10 row11 row12 secondarySize dataSize wordOf frameOf headerOf layout.valueIn layout.firstAmong layout.widthAmong layout.bitsFrom firstCause bitsAt numberAt stepsOf carriesNone gapFor gapOf hunted endedBy courseOf walkOf turns turn seenOf front cutOf sizeOf idleOf talliedAll tallied reading.valuesOf resumed recordAfter channelAfter busyState storeFits recordFollows allFollow channelFollows stateFollows hunts judged
 told5 store out h o = rw (h, o)
 
 output-passes : (out : List ℕ) → 6144 ≤ length out → outputFits most (length out) ≡ true
@@ -194,10 +195,10 @@ fresh-passes store out h o =
     record { store-fits = rw h; output-fits = output-passes out o; follows = fresh-follows source most store }
 
 -- B8, by the bound on every accepted frame
-at-most-292 : (u : SetUp) (rec : Record) (store out f : List ℕ) → frameOf u f .size ≡ 2042 → finished (read.answerOf u rec store out f) ≤ 292
+at-most-292 : (u : SetUp) (rec : Record) (store out f : List ℕ) → frameOf u f .size ≡ 2042 → packetsFinished (read.answerOf u rec store out f) ≤ 292
 at-most-292 u rec store out f d = by (read.answerOf u rec store out f) refl
   where
-    by : (a : Answer) → read.answerOf u rec store out f ≡ a → finished a ≤ 292
+    by : (a : Answer) → read.answerOf u rec store out f ≡ a → packetsFinished a ≤ 292
     by (Refused r) e = omega arith
     by (Accepted a) e =
         let b : (frameOf u f .size + 6) / 7 ≡ 292 = rw d in

@@ -11,25 +11,26 @@ use lib.ListN.{length, getD, take, drop, length-append, length-take, length-drop
 use lib.Seq.{getD-set-same, take-at}
 use borrow.Author.Tests.{eq-eqb, ne-eqb, le-leb}
 use Rattle.octets.specs.Laid.{laid}
-use Rattle.packet.specs.Family.{Family, Octets}
+use Rattle.octets.specs.Octets.{Octets}
+use Rattle.packet.specs.Family.{Family}
 use Rattle.frame.specs.Opening.{openOf, frameOf, idleData}
 use Rattle.frame.specs.SetUp.{mostLength}
-use Rattle.frame.specs.Table.{None}
+use Rattle.table.specs.Table.{None}
 use Rattle.frame.specs.declared.opening.Frame.{Frame}
 use Rattle.frame.specs.declared.opening.Opened.{Opened}
 use Rattle.frame.specs.declared.set_up.SetUp.{SetUp}
 use Rattle.frame.proofs.Laws.{accepted-exactly, opened-sound}
 use Rattle.channel.specs.Rules.{recordFollows}
 use Rattle.channel.specs.State.{freshChannel}
-use Rattle.channel.specs.Store.{storeFits, outputFits, placeOf, partOf, withPart}
+use Rattle.channel.specs.Store.{storeFits, outputFits, partPlace, partOf, withPart}
 use Rattle.channel.specs.declared.state.Record.{Record}
 use Rattle.channel.proofs.Laws.{part-own}
 use Rattle.channel.proofs.PartLaws.{apart}
 use Rattle.reader.specs.declared.reading.Answer.the-variants.{Accepted}
 use Rattle.reader.specs.Reading.{readTableOver, recordOver, storeOver, channelOf, doneBy, reportOf, recordAfter, storeAfter, outputAfter, ReadOver}
-use Rattle.walk.specs.Steps.{Done}
+use Rattle.walk.specs.Walk.{Done}
 use Rattle.reader.specs.Theorems.{Keeps}
-use Rattle.walk.specs.Theorems.{Sound}
+use Rattle.walk.specs.Theorems.{Roomy}
 use Rattle.reader.proofs.Laws.{accepted-keeps, store-octets, refused-untouched, others-apart}
 use Rattle.reader.proofs.ReadLaws.{at-none, accepts}
 use Rattle.demands.specs.History.{Harmless, carried}
@@ -49,7 +50,7 @@ starts-with part held = take-at held (drop (0 + length held) part) (length held)
 -- a part that leaves the store its length has the length of a part
 part-of-length : (limit v : ℕ) (store part : List ℕ) → length store ≡ limit * 8 → v < 8 → length (withPart limit v store part) ≡ length store
     → length part ≡ limit
-unfolding withPart placeOf
+unfolding withPart partPlace
 part-of-length limit v store part e h l =
     omega (
       arith,
@@ -74,7 +75,7 @@ module _ (u : SetUp) (f : List ℕ) (x : Frame) (opens : openOf u f ≡ Opened.A
   pub carried-all : (x .header .pointer ≡ idleData → ⊥) → carried u f ≡ x .size
   carried-all n = rw (← frame-is, ne-eqb (x .header .pointer) idleData n)
 
-module _ {F : Family} {limit : ℕ} (G : Sound F limit)
+module _ {F : Family} {limit : ℕ} (G : Roomy F limit)
     (u : SetUp) (rec : Record) (store out f : List ℕ) (x : Frame) (fine : Fine F limit rec store) (room : limit + mostLength ≤ length out)
     (opens : openOf u f ≡ Opened.Accepted x) where
   no-cause : (x ≡ frameOf u f) × None (readTableOver F limit u rec store out f)
@@ -127,7 +128,7 @@ pub record Same (F : Family) (limit : ℕ) (v : ℕ) (rec rec′ : Record) (stor
   pub channel : getD (rec′ .channels) v freshChannel ≡ getD (rec .channels) v freshChannel
   pub part : partOf limit v store′ ≡ partOf limit v store
 
-pub others-keep : {F : Family} {limit : ℕ} (G : Sound F limit) (v : ℕ) (u : SetUp) (rec : Record) (store out f : List ℕ) → v < 8
+pub others-keep : {F : Family} {limit : ℕ} (G : Roomy F limit) (v : ℕ) (u : SetUp) (rec : Record) (store out f : List ℕ) → v < 8
     → Fine F limit rec store → Octets f → Harmless F limit v u rec store out f
     → Same F limit v rec (recordOver F limit u rec store out f) store (storeOver F limit u rec store out f)
 others-keep {F} {limit} G v u rec store out f h fine real (inl (r, e)) =

@@ -10,7 +10,7 @@ use Rattle.packet.specs.Size.{most, source}
 use Rattle.packet.specs.Theorems.{endToEnd}
 use Rattle.frame.specs.declared.set_up.SetUp.{SetUp}
 use Rattle.channel.specs.State.{freshRecord}
-use Rattle.walk.proofs.SourceLaws.{source-sound}
+use Rattle.walk.proofs.SourceLaws.{source-roomy}
 use Rattle.writer.specs.declared.writing.Place.{Place}
 use Rattle.demands.specs.Demand2.{Writing, Demand2-general, Demand2, fitting, frames}
 use Rattle.demands.specs.History.{handedOut, wanted}
@@ -47,4 +47,4 @@ demand2-general limit G u v ps p cs store outs fits channel w real short start l
     }
 
 pub demand2 : Demand2
-demand2 = demand2-general most source-sound
+demand2 = demand2-general most source-roomy

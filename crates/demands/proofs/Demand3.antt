@@ -8,10 +8,11 @@ use mathlib.Core.Logic.{inl}
 use Prim.Native.Nat.{ℕ, _+_, _*_, _<_}
 use native.Mathlib.Omega.{arith}
 use lib.ListN.{length, getD, replicate, getD-replicate}
-use Rattle.packet.specs.Family.{Family, Octets, AllWhole}
+use Rattle.octets.specs.Octets.{Octets}
+use Rattle.packet.specs.Family.{Family, AllWhole}
 use Rattle.packet.specs.Size.{most, source}
-use Rattle.walk.proofs.SourceLaws.{source-sound}
-use Rattle.walk.specs.Theorems.{Sound}
+use Rattle.walk.proofs.SourceLaws.{source-roomy}
+use Rattle.walk.specs.Theorems.{Roomy}
 use Rattle.frame.specs.declared.set_up.SetUp.{SetUp}
 use Rattle.channel.specs.Rules.{recordFollows}
 use Rattle.channel.specs.State.{freshChannel, freshRecord}
@@ -30,7 +31,7 @@ use Rattle.demands.proofs.Hears.Reads.{unheard}
 use Rattle.demands.proofs.History.{Kept, after-lost, arrival-calls, arrival-keeps, other-keeps, record-keeps, store-keeps}
 use Rattle.demands.proofs.Spot.Lost.{lost-free}
 
-module _ {F : Family} {limit : ℕ} (G : Sound F limit) (u : SetUp) (v : ℕ) (tail : List ℕ) (ps : List (List ℕ)) (w : AllWhole F ps) (h : v < 8) where
+module _ {F : Family} {limit : ℕ} (G : Roomy F limit) (u : SetUp) (v : ℕ) (tail : List ℕ) (ps : List (List ℕ)) (w : AllWhole F ps) (h : v < 8) where
   along : (es : List Event) (fs : List (List ℕ)) (rec : Record) (store : List ℕ) (heard : Bool) (missing : ℕ) (came : List Bool)
       → Kept F limit u v tail ps rec store heard missing came fs → Allowed F limit u v rec store heard missing fs es
       → Delivers F limit u tail ps rec store came fs es
@@ -83,7 +84,7 @@ from-fresh F limit d u v count tail ps fs store es w s h whole octets a =
 
 -- the one instance: source packets of up to 4,096 octets
 pub demand3 : Demand3
-demand3 = demand3-general source most source-sound
+demand3 = demand3-general source most source-roomy
 
 pub demand3-fresh : Demand3-fresh
 demand3-fresh = from-fresh source most demand3
@@ -95,13 +96,13 @@ demand3-together-general F limit G u v count tail ps fs rec store es w s h eight
     (demand3-general F limit G u v count tail ps fs rec store es w s h eight whole octets follows fresh a)
 
 pub demand3-together : Demand3-together
-demand3-together = demand3-together-general source most source-sound
+demand3-together = demand3-together-general source most source-roomy
 
 -- from a fresh record
-pub together-fresh : (F : Family) (limit : ℕ) → Sound F limit → Demand3-together-freshOver F limit
+pub together-fresh : (F : Family) (limit : ℕ) → Roomy F limit → Demand3-together-freshOver F limit
 together-fresh F limit G u v count tail ps fs store es w s h whole octets a =
     handed-together F (G .laws) limit u tail ps w fs freshRecord store es
     (from-fresh F limit (demand3-general F limit G) u v count tail ps fs store es w s h whole octets a)
 
 pub demand3-together-fresh : Demand3-together-fresh
-demand3-together-fresh = together-fresh source most source-sound
+demand3-together-fresh = together-fresh source most source-roomy

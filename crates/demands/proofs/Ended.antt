@@ -15,8 +15,7 @@ use Rattle.packet.specs.declared.source.Size.the-variants.{Wait, Foreign, Total
 use Rattle.channel.specs.declared.state.State.{State}
 use Rattle.channel.specs.declared.state.State.the-variants.{Hunting, Gathering, Skipping}
 use Rattle.walk.specs.declared.walking.End.{End}
-use Rattle.walk.specs.Steps.{Done, endedBy, ended}
-use Rattle.walk.specs.Walk.{Walked, cutOf, walkOf}
+use Rattle.walk.specs.Walk.{Done, endedBy, ended, Walked, cutOf, walkOf}
 use Rattle.walk.proofs.DoneLaws.{ended-foreign, ended-oversize}
 use Rattle.walk.proofs.WalkLaws.{Stands, seen-whole, walk-stop, walk-whole, sees-end, sees-few, sees-packet, sees-cut}
 use Rattle.demands.proofs.Aligned.{AllFit}

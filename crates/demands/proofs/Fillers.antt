@@ -42,7 +42,7 @@ idle-version n = in-octets (idlePacket n) .version (omega arith)
 
 idle-total : (n : ℕ) → 7 ≤ n → n ≤ 2042 → totalOf (idlePacket n) ≡ n
 unfolding idlePacket octetsOf
-idle-total n h i = in-octets (idlePacket n) .total ∙ omega arith
+idle-total n h i = in-octets (idlePacket n) .total (omega arith) (omega arith) ∙ omega arith
 
 pub idle-whole : (n : ℕ) → 7 ≤ n → n ≤ 2042 → Whole source (idlePacket n)
 idle-whole n h i =
@@ -54,7 +54,7 @@ unfolding idlePacket
 idle-idle n = in-octets (idlePacket n) .idle
 
 pub short-whole : Whole source shortIdle
-short-whole = size-in-words shortIdle .six (omega arith) (in-octets shortIdle .version (omega arith)) ∙ ap Total (in-octets shortIdle .total)
+short-whole = size-in-words shortIdle .six (omega arith) (in-octets shortIdle .version (omega arith)) ∙ ap Total (in-octets shortIdle .total (omega arith) (omega arith))
 
 pub short-idle : idleOf shortIdle ≡ true
 short-idle = in-octets shortIdle .idle

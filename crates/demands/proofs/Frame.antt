@@ -12,13 +12,13 @@ use Rattle.packet.specs.Family.{Family, Lawful, Whole, AllWhole}
 use Rattle.packet.specs.Theorems.{endToEnd}
 use Rattle.packet.specs.declared.source.Size.{Size}
 use Rattle.packet.specs.declared.source.Size.the-variants.{Wait, Total}
-use Rattle.walk.specs.Theorems.{Sound}
+use Rattle.walk.specs.Theorems.{Roomy}
 use Rattle.frame.specs.Opening.{noneStarts}
 use Rattle.channel.specs.declared.state.State.{State}
 use Rattle.channel.specs.declared.state.State.the-variants.{Hunting, Gathering, Skipping}
-use Rattle.walk.specs.Steps.{Done, only, ended, hunted, calledAt, agreesBy, agrees, gathered, skipped}
-use Rattle.walk.specs.Walk.{walkOf}
-use Rattle.demands.specs.Sender.{Mark, inner, laidOut}
+use Rattle.walk.specs.Steps.{hunted, calledAt, agreesBy, agrees, gathered, skipped}
+use Rattle.walk.specs.Walk.{Done, only, ended, walkOf}
+use Rattle.demands.specs.Sender.{Mark, inner, marksOfAll}
 use Rattle.demands.proofs.Aligned.{AllFit, Ran, Standing, exact-ran, exact-state, midst-done}
 use Rattle.demands.proofs.Aligned.Standing.{gathering, skipping}
 use Rattle.demands.proofs.Spot.{Free, Inside, Lost, finishes}
@@ -39,7 +39,7 @@ pub record Good (F : Family) (limit : ℕ) (d : Done) (tail : List ℕ) (ps : Li
   pub ran : Ran d (finishes limit tail ps came D)
   pub to-come : List ℕ
   pub behind : List (List ℕ)
-  pub rest-is : rest ≡ inner to-come ++ laidOut behind
+  pub rest-is : rest ≡ inner to-come ++ marksOfAll behind
   pub stands : (part : List ℕ) → take (length (d .held)) part ≡ d .held
       → Stand F limit (d .state) part tail ps (came ++ replicate D true) to-come behind
 
@@ -92,10 +92,10 @@ pub skipped-on : (F : Family) (limit : ℕ) (field : List ℕ) (pointer r : ℕ)
 unfolding skipped
 skipped-on F limit field pointer r e h = rw (eq-eqb pointer (calledAt (length field) r) e, lt-leb r (length field) h)
 
-module _ {F : Family} {limit : ℕ} (G : Sound F limit) {tail : List ℕ} {ps : List (List ℕ)} {came : List Bool} {D : ℕ} {rest : List Mark} where
+module _ {F : Family} {limit : ℕ} (G : Roomy F limit) {tail : List ℕ} {ps : List (List ℕ)} {came : List Bool} {D : ℕ} {rest : List Mark} where
   -- nothing came out and the channel hunts
   pub only-good : (q : List ℕ) (behind : List (List ℕ)) → finishes limit tail ps came D ≡ [] → Lost tail ps (came ++ replicate D true) q behind
-      → rest ≡ inner q ++ laidOut behind → Good F limit (only Hunting) tail ps came D rest
+      → rest ≡ inner q ++ marksOfAll behind → Good F limit (only Hunting) tail ps came D rest
   only-good q behind f l r =
       record {
         ran = record { whole = sym f; none-foreign = refl; none-disagrees = refl };
@@ -107,7 +107,7 @@ module _ {F : Family} {limit : ℕ} (G : Sound F limit) {tail : List ℕ} {ps : 
 
   -- the walk came to an exact end, or into the beginning of a packet
   pub exact-good : (d : Done) (vs behind : List (List ℕ)) → AllWhole F vs → AllFit limit vs → finishes limit tail ps came D ≡ vs
-      → d ≡ ended (walkOf F limit (endToEnd vs)) → Free tail ps (came ++ replicate D true) [] behind → rest ≡ laidOut behind
+      → d ≡ ended (walkOf F limit (endToEnd vs)) → Free tail ps (came ++ replicate D true) [] behind → rest ≡ marksOfAll behind
       → Good F limit d tail ps came D rest
   unfolding inner
   exact-good d vs behind w a f e s r =
@@ -122,7 +122,7 @@ module _ {F : Family} {limit : ℕ} (G : Sound F limit) {tail : List ℕ} {ps : 
 
   pub midst-good : (d : Done) (vs : List (List ℕ)) (begun left : List ℕ) (behind : List (List ℕ)) → AllWhole F vs → AllFit limit vs
       → Whole F (begun ++ left) → finishes limit tail ps came D ≡ vs → d ≡ ended (walkOf F limit (endToEnd vs ++ begun))
-      → Inside tail ps (came ++ replicate D true) begun left behind true → rest ≡ inner left ++ laidOut behind
+      → Inside tail ps (came ++ replicate D true) begun left behind true → rest ≡ inner left ++ marksOfAll behind
       → Good F limit d tail ps came D rest
   midst-good d vs begun left behind w a p f e s r =
       let m = midst-done F (G .laws) limit vs w a begun left p (s .some) (s .more) in

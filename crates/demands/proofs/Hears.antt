@@ -11,7 +11,7 @@ use lib.ListN.{length}
 use borrow.Author.Tests.{eq-eqb, ne-eqb}
 use Rattle.octets.specs.Pick.{pick}
 use Rattle.packet.specs.Family.{Family, AllWhole}
-use Rattle.walk.specs.Theorems.{Sound}
+use Rattle.walk.specs.Theorems.{Roomy}
 use Rattle.frame.specs.Opening.{idleData}
 use Rattle.frame.specs.declared.header.Header.{Header}
 use Rattle.frame.proofs.Laws.{gap-exactly}
@@ -19,9 +19,10 @@ use Rattle.channel.specs.Rules.{channelFollows, hunts}
 use Rattle.channel.specs.declared.state.Channel.{Channel}
 use Rattle.channel.specs.declared.state.State.{State}
 use Rattle.channel.specs.declared.state.State.the-variants.{Hunting, Gathering, Skipping}
-use Rattle.walk.specs.Steps.{only, hunted, broke, calledAt, resumed, gapFor, carriesNone, stepsOf}
+use Rattle.walk.specs.Steps.{hunted, broke, calledAt, resumed, gapFor, carriesNone, stepsOf}
+use Rattle.walk.specs.Walk.{only}
 use Rattle.demands.specs.History.{mostMissing}
-use Rattle.demands.specs.Sender.{Mark, inner, laidOut}
+use Rattle.demands.specs.Sender.{Mark, inner, marksOfAll}
 use Rattle.demands.proofs.Arrives.{hunted-good, resumed-good}
 use Rattle.demands.proofs.Field.{Next}
 use Rattle.demands.proofs.Frame.{Stand, Good, called-below, called-beyond}
@@ -97,12 +98,12 @@ not-idle D e pointer few points z = go (decLt e D)
     go (yes l) = omega (arith, called-below D e l)
     go (no l) = omega (arith, called-beyond D e (omega arith))
 
-module _ {F : Family} {limit : ℕ} (G : Sound F limit)
+module _ {F : Family} {limit : ℕ} (G : Roomy F limit)
     {c : Channel} {part tail : List ℕ} {ps : List (List ℕ)} {came : List Bool} {q : List ℕ} {behind : List (List ℕ)} {heard : Bool}
     {missing count : ℕ} {rest : List Mark} (w : AllWhole F ps) (field : List ℕ) (h : Header) (private : h .synchronisation ≡ false)
     (reads : Reads F limit c part tail ps came q behind heard missing count) where
   -- an idle frame arrived
-  pub idle-arrives : h .pointer ≡ idleData → q ≡ [] → rest ≡ inner q ++ laidOut behind
+  pub idle-arrives : h .pointer ≡ idleData → q ≡ [] → rest ≡ inner q ++ marksOfAll behind
       → Good F limit (stepsOf F limit part field h c) tail ps came 0 rest
   idle-arrives e z r = rw (steps-idle F limit part field h c private e) (broke-good (c .state) (idle-good G w (reads-any reads) z r))
 

@@ -8,9 +8,10 @@ use native.Mathlib.Nat.{zero-add}
 use native.Mathlib.Omega.{arith}
 use lib.ListN.{length, getD, take, drop, replicate}
 use Rattle.octets.specs.Laid.{laid}
-use Rattle.packet.specs.Family.{Family, Octets, AllWhole}
+use Rattle.octets.specs.Octets.{Octets}
+use Rattle.packet.specs.Family.{Family, AllWhole}
 use Rattle.packet.specs.Theorems.{endToEnd}
-use Rattle.walk.specs.Theorems.{Sound}
+use Rattle.walk.specs.Theorems.{Roomy}
 use Rattle.frame.specs.Counts.{after}
 use Rattle.frame.specs.Opening.{idleData}
 use Rattle.frame.specs.SetUp.{mostLength}
@@ -23,11 +24,11 @@ use Rattle.channel.specs.declared.state.Channel.{Channel}
 use Rattle.channel.specs.declared.state.Record.{Record}
 use Rattle.channel.proofs.Laws.{each-follows}
 use Rattle.reader.specs.Reading.{fieldOf, channelOf, doneBy, reportOf, recordOver, storeOver, outputAfter}
-use Rattle.walk.specs.Steps.{Done, courseOf, stepsOf, calledAt}
-use Rattle.walk.specs.Walk.{noTally}
+use Rattle.walk.specs.Steps.{courseOf, stepsOf, calledAt}
+use Rattle.walk.specs.Walk.{Done, noTally}
 use Rattle.reader.proofs.Laws.{refused-untouched}
 use Rattle.demands.specs.History.{Harmless, Refuses, Call, brought, carried, mostMissing, wanted, unwanted}
-use Rattle.demands.specs.Sender.{Mark, Sent, Sends, octetsIn, firstStart, between, inner, laidOut}
+use Rattle.demands.specs.Sender.{Mark, Sent, Sends, octetsMarked, firstStart, between, inner, marksOfAll}
 use Rattle.demands.specs.Sender.Sends.{packets, idle}
 use Rattle.demands.proofs.Calls.{Fine, starts-with, count-lt, read, fine-after, own-after, part-after, carried-none, carried-all, others-keep}
 use Rattle.demands.proofs.Due.{handed-wanted, tally-wanted, tally-unwanted}
@@ -41,7 +42,7 @@ use Rattle.demands.proofs.Stream.{pointer-is}
 
 -- the sender's next frame
 pub data Upcoming (u : SetUp) (v count : ℕ) (rest : List Mark) (f : List ℕ) (fs : List (List ℕ)) : Type 0 where
-  with-packets : (x : Frame) → Sent u v count f x → x .size ≤ length rest → fieldOf x f ≡ octetsIn (take (x .size) rest)
+  with-packets : (x : Frame) → Sent u v count f x → x .size ≤ length rest → fieldOf x f ≡ octetsMarked (take (x .size) rest)
       → x .header .pointer ≡ firstStart 0 (take (x .size) rest) → Sends u v (after count) (drop (x .size) rest) fs
       → Upcoming u v count rest f fs
   with-none : (x : Frame) → Sent u v count f x → x .header .pointer ≡ idleData → between rest ≡ true → Sends u v (after count) rest fs
@@ -60,7 +61,7 @@ pub record Kept (F : Family) (limit : ℕ) (u : SetUp) (v : ℕ) (tail : List �
   pub to-come : List ℕ
   pub behind : List (List ℕ)
   pub sends : Sends u v count rest fs
-  pub rest-is : rest ≡ inner to-come ++ laidOut behind
+  pub rest-is : rest ≡ inner to-come ++ marksOfAll behind
   pub fine : Fine F limit rec store
   pub reads : Reads F limit (getD (rec .channels) v freshChannel) (partOf limit v store) tail ps came to-come behind heard missing count
 
@@ -73,12 +74,12 @@ lose-reads (unheard a b l) n = unheard a b n
 lose-reads (stale a b h e m l) n = stale a b h (omega arith) (omega arith) n
 lose-reads (live a b h e m s) n = stale a b h (omega arith) (omega arith) n
 
-module _ {F : Family} {limit : ℕ} (G : Sound F limit)
+module _ {F : Family} {limit : ℕ} (G : Roomy F limit)
     {u : SetUp} {v : ℕ} {tail : List ℕ} {ps : List (List ℕ)} {rec : Record} {store : List ℕ} {heard : Bool} {missing : ℕ}
     {came : List Bool} {f : List ℕ} {fs : List (List ℕ)} (w : AllWhole F ps)
     (k : Kept F limit u v tail ps rec store heard missing came (f ∷ fs)) where
   -- the data field of the next frame
-  field-is : (x : Frame) → x .size ≤ length (k .rest) → fieldOf x f ≡ octetsIn (take (x .size) (k .rest))
+  field-is : (x : Frame) → x .size ≤ length (k .rest) → fieldOf x f ≡ octetsMarked (take (x .size) (k .rest))
       → Next (k .to-come) (k .behind) (fieldOf x f) (drop (x .size) (k .rest))
   field-is x a b = rw (b, k .rest-is) (next-of (k .to-come) (k .behind) (x .size) (rw (k .rest-is) at a))
 
@@ -115,7 +116,7 @@ module _ {F : Family} {limit : ℕ} (G : Sound F limit)
           (loses (fieldOf x f) (omega (arith, o .least)) (reads-any (k .reads)) (field-is x a b))
       go (with-none x s a b d) =
           by 0 (k .rest) d (carried-none u f x (s .opens) a)
-          (idle-loses (reads-any (k .reads)) (nothing-to-come (k .to-come) (laidOut (k .behind)) (rw (k .rest-is) at b)) (k .rest-is))
+          (idle-loses (reads-any (k .reads)) (nothing-to-come (k .to-come) (marksOfAll (k .behind)) (rw (k .rest-is) at b)) (k .rest-is))
 
 -- an arriving frame: what its steps do is right
 record Coming (F : Family) (limit : ℕ) (u : SetUp) (v : ℕ) (tail : List ℕ) (ps : List (List ℕ)) (rec : Record) (store : List ℕ) (came : List Bool) (count : ℕ)
@@ -126,7 +127,7 @@ record Coming (F : Family) (limit : ℕ) (u : SetUp) (v : ℕ) (tail : List ℕ)
   good : Good F limit (doneBy F limit x rec store f) tail ps came (carried u f) left
   sends : Sends u v (after count) left fs
 
-module _ {F : Family} {limit : ℕ} (G : Sound F limit)
+module _ {F : Family} {limit : ℕ} (G : Roomy F limit)
     {u : SetUp} {v : ℕ} {tail : List ℕ} {ps : List (List ℕ)} {rec : Record} {store : List ℕ} {heard : Bool} {missing : ℕ}
     {came : List Bool} {f : List ℕ} {fs : List (List ℕ)} (w : AllWhole F ps)
     (k : Kept F limit u v tail ps rec store heard missing came (f ∷ fs)) (few : heard ≡ true → missing ≤ mostMissing) where
@@ -155,7 +156,7 @@ module _ {F : Family} {limit : ℕ} (G : Sound F limit)
       go (with-none x s a b d) =
           by x 0 (k .rest) s d (carried-none u f x (s .opens) a)
           (idle-arrives G w (fieldOf x f) (x .header) (s .not-private) (k .reads) a
-          (nothing-to-come (k .to-come) (laidOut (k .behind)) (rw (k .rest-is) at b)) (k .rest-is))
+          (nothing-to-come (k .to-come) (marksOfAll (k .behind)) (rw (k .rest-is) at b)) (k .rest-is))
 
   module _ (out : List ℕ) (room : limit + mostLength ≤ length out) where
     pub arrival-calls : Call F limit u rec store out f (wanted F (brought limit u tail ps came f)) (unwanted F (brought limit u tail ps came f))
@@ -202,7 +203,7 @@ module _ {F : Family} {limit : ℕ} (G : Sound F limit)
         }
 
 -- every other call
-module _ {F : Family} {limit : ℕ} (G : Sound F limit)
+module _ {F : Family} {limit : ℕ} (G : Roomy F limit)
     {u : SetUp} {v : ℕ} {tail : List ℕ} {ps : List (List ℕ)} {rec : Record} {store : List ℕ} {heard : Bool} {missing : ℕ}
     {came : List Bool} {fs : List (List ℕ)} (k : Kept F limit u v tail ps rec store heard missing came fs) where
   pub other-keeps : (u′ : SetUp) (out f : List ℕ) → v < 8 → Octets f → Harmless F limit v u′ rec store out f

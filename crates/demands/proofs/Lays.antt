@@ -16,7 +16,7 @@ use Rattle.packet.specs.Theorems.{endToEnd}
 use Rattle.writer.specs.Laying.{idlePacket, shortIdle, leftPart, runPart, placedPart, fillerOf, leftAfter, fieldOf, leftOverAfter}
 use Rattle.writer.proofs.LayingLaws.{length-left, length-run, length-placed, none-after}
 use Rattle.demands.specs.Demand2.{fillerFor}
-use Rattle.demands.specs.Sender.{Mark, inner, marksOf, laidOut, octetsIn}
+use Rattle.demands.specs.Sender.{Mark, inner, marksOf, marksOfAll, octetsMarked}
 use Rattle.demands.proofs.Fillers.{length-idle}
 use Rattle.demands.proofs.Stream.{length-inner, octets-append, octets-inner, octets-laid, octets-take, length-laid, length-marks, laid-append}
 
@@ -59,8 +59,8 @@ drop-marks zero q h = absurd (omega arith)
 drop-marks (suc n) [] h = refl
 drop-marks (suc n) (o ∷ q) h = drop-inner n q
 
-octets-drop : (n : ℕ) (ms : List Mark) → octetsIn (drop n ms) ≡ drop n (octetsIn ms)
-unfolding octetsIn
+octets-drop : (n : ℕ) (ms : List Mark) → octetsMarked (drop n ms) ≡ drop n (octetsMarked ms)
+unfolding octetsMarked
 octets-drop zero ms = refl
 octets-drop (suc n) [] = refl
 octets-drop (suc n) (m ∷ ms) = octets-drop n ms
@@ -118,11 +118,11 @@ module _ (placed room : ℕ) (n : placed ≡ 0 → ⊥) where
       go (wide h f l o) = rw (f, o, append-nil (idlePacket room)) (take-all room (idlePacket room) (omega (arith, length-idle room h)))
       go (close h i f l o) = rw (f, o)
 
-  filler-drop : drop room (laidOut (fillerFor placed room)) ≡ inner (drop (7 - leftAfter placed room) shortIdle)
-  unfolding laidOut inner
+  filler-drop : drop room (marksOfAll (fillerFor placed room)) ≡ inner (drop (7 - leftAfter placed room) shortIdle)
+  unfolding marksOfAll inner
   filler-drop = go room-of
     where
-      go : Room → drop room (laidOut (fillerFor placed room)) ≡ inner (drop (7 - leftAfter placed room) shortIdle)
+      go : Room → drop room (marksOfAll (fillerFor placed room)) ≡ inner (drop (7 - leftAfter placed room) shortIdle)
       go (none z f l o) = rw (f, l, z)
       go (wide h f l o) =
           rw (f, l, append-nil (marksOf (idlePacket room)))
@@ -144,7 +144,7 @@ room-plain D l k a b n ea eb en = go (decLt D l)
 
 -- what is still to be sent from a place of the run on
 abbrev pub toSend : List (List ℕ) → ℕ → ℕ → List (List ℕ) → List Mark
-toSend ps offset left fs = inner (drop (7 - left) shortIdle) ++ (drop offset (laidOut ps) ++ laidOut fs)
+toSend ps offset left fs = inner (drop (7 - left) shortIdle) ++ (drop offset (marksOfAll ps) ++ marksOfAll fs)
 
 pub length-tail : (left : ℕ) → left ≤ 6 → length (drop (7 - left) shortIdle) ≡ left
 length-tail left h = length-drop (7 - left) shortIdle ∙ omega arith
@@ -223,10 +223,10 @@ module _ (ps : List (List ℕ)) (offset left D : ℕ) (few : left ≤ 6) (inside
   -- what this call has to send: the left-over, the run, its filler
   marks : List Mark
   unfolding filler
-  marks = inner (drop (7 - left) shortIdle) ++ (drop offset (laidOut ps) ++ laidOut filler)
+  marks = inner (drop (7 - left) shortIdle) ++ (drop offset (marksOfAll ps) ++ marksOfAll filler)
 
-  run-long : length (drop offset (laidOut ps)) ≡ length (endToEnd ps) - offset
-  run-long = length-drop offset (laidOut ps) ∙ ap (λ (k : ℕ). k - offset) (length-laid ps)
+  run-long : length (drop offset (marksOfAll ps)) ≡ length (endToEnd ps) - offset
+  run-long = length-drop offset (marksOfAll ps) ∙ ap (λ (k : ℕ). k - offset) (length-laid ps)
 
   tail-long : length (inner (drop (7 - left) shortIdle)) ≡ left
   tail-long = length-inner (drop (7 - left) shortIdle) ∙ length-tail left few
@@ -253,8 +253,8 @@ module _ (ps : List (List ℕ)) (offset left D : ℕ) (few : left ≤ 6) (inside
       let f = fillerFor (length (placedPart D (endToEnd ps) offset left)) (D - length (placedPart D (endToEnd ps) offset left)) in
       omega (
         arith,
-        length-append (inner (drop (7 - left) shortIdle)) (drop offset (laidOut ps) ++ laidOut f),
-        length-append (drop offset (laidOut ps)) (laidOut f),
+        length-append (inner (drop (7 - left) shortIdle)) (drop offset (marksOfAll ps) ++ marksOfAll f),
+        length-append (drop offset (marksOfAll ps)) (marksOfAll f),
         run-long,
         tail-long,
         room-is,
@@ -262,15 +262,15 @@ module _ (ps : List (List ℕ)) (offset left D : ℕ) (few : left ≤ 6) (inside
         filler-long (length (placedPart D (endToEnd ps) offset left)) (D - length (placedPart D (endToEnd ps) offset left)) some,
       )
 
-  octets-are : octetsIn marks ≡ drop (7 - left) shortIdle ++ (drop offset (endToEnd ps) ++ endToEnd filler)
+  octets-are : octetsMarked marks ≡ drop (7 - left) shortIdle ++ (drop offset (endToEnd ps) ++ endToEnd filler)
   unfolding marks
   octets-are =
-      octets-append (inner (drop (7 - left) shortIdle)) (drop offset (laidOut ps) ++ laidOut filler)
+      octets-append (inner (drop (7 - left) shortIdle)) (drop offset (marksOfAll ps) ++ marksOfAll filler)
       ∙ ap₂ (λ (a b : List ℕ). a ++ b) (octets-inner (drop (7 - left) shortIdle))
-      (octets-append (drop offset (laidOut ps)) (laidOut filler)
-      ∙ ap₂ (λ (a b : List ℕ). a ++ b) (octets-drop offset (laidOut ps) ∙ ap (drop offset) (octets-laid ps)) (octets-laid filler))
+      (octets-append (drop offset (marksOfAll ps)) (marksOfAll filler)
+      ∙ ap₂ (λ (a b : List ℕ). a ++ b) (octets-drop offset (marksOfAll ps) ∙ ap (drop offset) (octets-laid ps)) (octets-laid filler))
 
-  marks-field : octetsIn (take D marks) ≡ fieldOf D (endToEnd ps) offset left
+  marks-field : octetsMarked (take D marks) ≡ fieldOf D (endToEnd ps) offset left
   unfolding fieldOf placedPart leftPart runPart filler
   marks-field =
       let a = drop (7 - left) shortIdle in
@@ -289,21 +289,21 @@ module _ (ps : List (List ℕ)) (offset left D : ℕ) (few : left ≤ 6) (inside
   -- what the next place has left of these
   later : List Mark
   later = inner (drop (7 - leftOverAfter D (endToEnd ps) offset left) shortIdle)
-      ++ drop (offset + length (runPart D (endToEnd ps) offset left)) (laidOut ps)
+      ++ drop (offset + length (runPart D (endToEnd ps) offset left)) (marksOfAll ps)
 
   -- the parts of what is behind the field
   marks-parts : drop D marks ≡ inner (drop D (drop (7 - left) shortIdle))
-      ++ (drop (offset + (D - left)) (laidOut ps) ++ drop (D - length (placedPart D (endToEnd ps) offset left)) (laidOut filler))
+      ++ (drop (offset + (D - left)) (marksOfAll ps) ++ drop (D - length (placedPart D (endToEnd ps) offset left)) (marksOfAll filler))
   unfolding marks
   marks-parts =
       let a = inner (drop (7 - left) shortIdle) in
-      let b = drop offset (laidOut ps) in
-      drop-both D a (b ++ laidOut filler)
+      let b = drop offset (marksOfAll ps) in
+      drop-both D a (b ++ marksOfAll filler)
       ∙ ap₂ (λ (x y : List Mark). x ++ y) (drop-inner D (drop (7 - left) shortIdle))
-      (ap (λ (k : ℕ). drop (D - k) (b ++ laidOut filler)) tail-long
-      ∙ drop-both (D - left) b (laidOut filler)
-      ∙ ap₂ (λ (x y : List Mark). x ++ y) (drop-drop (D - left) offset (laidOut ps))
-      (ap (λ (k : ℕ). drop k (laidOut filler)) (ap (λ (k : ℕ). D - left - k) run-long ∙ room-is)))
+      (ap (λ (k : ℕ). drop (D - k) (b ++ marksOfAll filler)) tail-long
+      ∙ drop-both (D - left) b (marksOfAll filler)
+      ∙ ap₂ (λ (x y : List Mark). x ++ y) (drop-drop (D - left) offset (marksOfAll ps))
+      (ap (λ (k : ℕ). drop k (marksOfAll filler)) (ap (λ (k : ℕ). D - left - k) run-long ∙ room-is)))
 
   -- the left-over does not fit; the run does not; both do
   marks-later : drop D marks ≡ later
@@ -311,36 +311,36 @@ module _ (ps : List (List ℕ)) (offset left D : ℕ) (few : left ≤ 6) (inside
   marks-later =
       let n = length (placedPart D (endToEnd ps) offset left) in
       marks-parts
-      ∙ later-plain (laidOut ps) offset left D (length (leftPart D left)) (length (runPart D (endToEnd ps) offset left)) n
-      (leftAfter n (D - n)) (drop (D - n) (laidOut filler)) few (omega (arith, length-laid ps)) (length-left D left few)
+      ∙ later-plain (marksOfAll ps) offset left D (length (leftPart D left)) (length (runPart D (endToEnd ps) offset left)) n
+      (leftAfter n (D - n)) (drop (D - n) (marksOfAll filler)) few (omega (arith, length-laid ps)) (length-left D left few)
       (length-run D (endToEnd ps) offset left ∙ ap (λ (k : ℕ). min (k - offset) (D - length (leftPart D left))) (sym (length-laid ps)))
       (length-placed D (endToEnd ps) offset left) (filler-drop n (D - n) some) (none-after n (D - n))
 
   module _ (fs : List (List ℕ)) where
     split : toSend ps offset left
         (fillerFor (length (placedPart D (endToEnd ps) offset left)) (D - length (placedPart D (endToEnd ps) offset left)) ++ fs)
-        ≡ marks ++ laidOut fs
+        ≡ marks ++ marksOfAll fs
     unfolding marks filler
     split =
-        ap (λ (x : List Mark). inner (drop (7 - left) shortIdle) ++ (drop offset (laidOut ps) ++ x)) (laid-append filler fs)
-        ∙ ap (λ (x : List Mark). inner (drop (7 - left) shortIdle) ++ x) (sym (append-assoc (drop offset (laidOut ps)) (laidOut filler) (laidOut fs)))
-        ∙ sym (append-assoc (inner (drop (7 - left) shortIdle)) (drop offset (laidOut ps) ++ laidOut filler) (laidOut fs))
+        ap (λ (x : List Mark). inner (drop (7 - left) shortIdle) ++ (drop offset (marksOfAll ps) ++ x)) (laid-append filler fs)
+        ∙ ap (λ (x : List Mark). inner (drop (7 - left) shortIdle) ++ x) (sym (append-assoc (drop offset (marksOfAll ps)) (marksOfAll filler) (marksOfAll fs)))
+        ∙ sym (append-assoc (inner (drop (7 - left) shortIdle)) (drop offset (marksOfAll ps) ++ marksOfAll filler) (marksOfAll fs))
 
     pub sends-long : D ≤ length (toSend ps offset left
         (fillerFor (length (placedPart D (endToEnd ps) offset left)) (D - length (placedPart D (endToEnd ps) offset left)) ++ fs))
-    sends-long = rw split (omega (arith, length-append marks (laidOut fs), marks-long))
+    sends-long = rw split (omega (arith, length-append marks (marksOfAll fs), marks-long))
 
     pub sends-field : fieldOf D (endToEnd ps) offset left
-        ≡ octetsIn (take D (toSend ps offset left
+        ≡ octetsMarked (take D (toSend ps offset left
         (fillerFor (length (placedPart D (endToEnd ps) offset left)) (D - length (placedPart D (endToEnd ps) offset left)) ++ fs)))
     sends-field =
-        sym (ap (λ (x : List Mark). octetsIn (take D x)) split ∙ ap octetsIn (take-append-le D marks (laidOut fs) marks-long) ∙ marks-field)
+        sym (ap (λ (x : List Mark). octetsMarked (take D x)) split ∙ ap octetsMarked (take-append-le D marks (marksOfAll fs) marks-long) ∙ marks-field)
 
     pub sends-later : drop D (toSend ps offset left
         (fillerFor (length (placedPart D (endToEnd ps) offset left)) (D - length (placedPart D (endToEnd ps) offset left)) ++ fs))
         ≡ toSend ps (offset + length (runPart D (endToEnd ps) offset left)) (leftOverAfter D (endToEnd ps) offset left) fs
     unfolding later
     sends-later =
-        ap (drop D) split ∙ drop-append-le D marks (laidOut fs) marks-long ∙ ap (λ (x : List Mark). x ++ laidOut fs) marks-later
+        ap (drop D) split ∙ drop-append-le D marks (marksOfAll fs) marks-long ∙ ap (λ (x : List Mark). x ++ marksOfAll fs) marks-later
         ∙ append-assoc (inner (drop (7 - leftOverAfter D (endToEnd ps) offset left) shortIdle))
-        (drop (offset + length (runPart D (endToEnd ps) offset left)) (laidOut ps)) (laidOut fs)
+        (drop (offset + length (runPart D (endToEnd ps) offset left)) (marksOfAll ps)) (marksOfAll fs)

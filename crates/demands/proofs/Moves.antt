@@ -8,11 +8,12 @@ use native.Mathlib.Omega.{arith}
 use lib.ListN.{length, replicate, length-append}
 use Rattle.packet.specs.Family.{Family, AllWhole}
 use Rattle.packet.specs.Theorems.{endToEnd}
-use Rattle.walk.specs.Theorems.{Sound}
+use Rattle.walk.specs.Theorems.{Roomy}
 use Rattle.channel.specs.declared.state.State.{State}
-use Rattle.walk.specs.Steps.{Done, only, broke}
+use Rattle.walk.specs.Steps.{broke}
+use Rattle.walk.specs.Walk.{Done, only}
 use Rattle.channel.specs.declared.state.State.the-variants.{Hunting}
-use Rattle.demands.specs.Sender.{Mark, inner, laidOut, between}
+use Rattle.demands.specs.Sender.{Mark, inner, marksOfAll, between}
 use Rattle.demands.proofs.Due.{late-all}
 use Rattle.demands.proofs.Field.{Next}
 use Rattle.demands.proofs.Field.Next.{still, ends, opens}
@@ -30,7 +31,7 @@ pub data Any (tail : List ℕ) (ps : List (List ℕ)) (came : List Bool) (q : Li
 pub record Losing (tail : List ℕ) (ps : List (List ℕ)) (came : List Bool) (rest : List Mark) : Type 0 where
   pub to-come : List ℕ
   pub behind : List (List ℕ)
-  pub rest-is : rest ≡ inner to-come ++ laidOut behind
+  pub rest-is : rest ≡ inner to-come ++ marksOfAll behind
   pub lost : Lost tail ps came to-come behind
 
 module _ {tail : List ℕ} {ps : List (List ℕ)} {came : List Bool} {q : List ℕ} {behind : List (List ℕ)} where
@@ -99,12 +100,12 @@ module _ {tail : List ℕ} {ps : List (List ℕ)} {came : List Bool} {q : List �
   idle-same c s e = rw (append-nil came) (lost-free (idle-free s e))
 
   -- an idle frame was lost, or arrived
-  pub idle-loses : {rest : List Mark} → Any tail ps came q behind → q ≡ [] → rest ≡ inner q ++ laidOut behind
+  pub idle-loses : {rest : List Mark} → Any tail ps came q behind → q ≡ [] → rest ≡ inner q ++ marksOfAll behind
       → Losing tail ps (came ++ replicate 0 false) rest
   idle-loses s e r = record { to-come = q; behind = behind; rest-is = r; lost = idle-same false s e }
 
-  pub idle-good : {F : Family} {limit : ℕ} (G : Sound F limit) {rest : List Mark} → AllWhole F ps → Any tail ps came q behind → q ≡ []
-      → rest ≡ inner q ++ laidOut behind
+  pub idle-good : {F : Family} {limit : ℕ} (G : Roomy F limit) {rest : List Mark} → AllWhole F ps → Any tail ps came q behind → q ≡ []
+      → rest ≡ inner q ++ marksOfAll behind
       → Good F limit (only Hunting) tail ps came 0 rest
   idle-good {F} {limit} G w s e r =
       only-good G q behind

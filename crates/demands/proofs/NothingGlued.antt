@@ -11,7 +11,7 @@ use native.Mathlib.Omega.{arith}
 use lib.Dec.{eqb, leb}
 use lib.ListN.{length, take, drop, getD, set, length-append, drop-of-length-le, List·getD-eq-default}
 use lib.Seq.{length-take-le, take-append-add, drop-append-add, getD-set-same, set-out}
-use borrow.Author.Tests.{ltb-true, leb-true, eqb-true, eq-eqb, ne-eqb}
+use borrow.Author.Tests.{leb-true, eqb-true, eq-eqb, ne-eqb}
 use Rattle.octets.specs.Laid.{laid}
 use Rattle.octets.specs.Pick.{pick}
 use Rattle.packet.specs.Family.{Family, Lawful, AllWhole}
@@ -30,9 +30,9 @@ use Rattle.channel.specs.Store.{partOf}
 use Rattle.channel.specs.declared.state.Channel.{Channel}
 use Rattle.channel.specs.declared.state.State.{State}
 use Rattle.channel.specs.declared.state.State.the-variants.{Hunting, Gathering, Skipping}
-use Rattle.channel.proofs.RuleLaws.{both}
-use Rattle.walk.specs.Steps.{Done, only, ended, hunted, broke, disagreed, calledAt, agreesBy, agrees, gathered, skipped, resumed, gapFor, carriesNone, stepsOf, courseOf}
-use Rattle.walk.specs.Walk.{walkOf, noTally}
+use Rattle.channel.proofs.RuleLaws.{gathers-told}
+use Rattle.walk.specs.Steps.{hunted, broke, disagreed, calledAt, agreesBy, agrees, gathered, skipped, resumed, gapFor, carriesNone, stepsOf, courseOf}
+use Rattle.walk.specs.Walk.{Done, only, ended, walkOf, noTally}
 use Rattle.walk.proofs.EndLaws.{held-total}
 use Rattle.walk.proofs.KeepLaws.{state-follows}
 use Rattle.walk.proofs.WalkLaws.{Stands}
@@ -42,7 +42,7 @@ use Rattle.reader.specs.declared.reading.Report.{Report}
 use Rattle.reader.proofs.AcceptLaws.{own-follows, field-length, part-whole}
 use Rattle.reader.proofs.ReadLaws.{found-none, leaves, opened, ready}
 use Rattle.demands.specs.History.{wanted}
-use Rattle.demands.specs.NothingGlued.{AllProper, UnderWay, PointsBehind, Continued, Held, Origin, Nothing-glued-general, Nothing-glued}
+use Rattle.demands.specs.NothingGlued.{AllProper, CarriedOn, PointsBehind, Continued, Held, Origin, Nothing-glued-general, Nothing-glued}
 use Rattle.demands.specs.NothingGlued.Finished.{all-inside, one-continued}
 use Rattle.demands.specs.NothingGlued.Held.{nothing-held, begun, one-goes-on}
 use Rattle.demands.proofs.Aligned.{AllFit}
@@ -176,13 +176,12 @@ module _ (F : Family) (laws : Lawful F) (limit : ℕ) (c : Channel) (part field 
         )
 
     -- a walk that begins with k held octets, where the pointer agrees
-    module _ (k : ℕ) (way : UnderWay c a k) (follows : stateFollows F limit part (Gathering k) ≡ true) where
+    module _ (k : ℕ) (way : CarriedOn c a k) (follows : stateFollows F limit part (Gathering k) ≡ true) where
       abbrev run : List ℕ
       run = take k part ++ field
 
       length-held : length (take k part) ≡ k
-      unfolding stateFollows
-      length-held = length-take-le k part (omega (arith, ltb-true k limit (both _ _ follows .0)))
+      length-held = length-take-le k part (gathers-told F limit part k follows .1)
 
       -- one of n octets that ends in the field
       module _ (n : ℕ) (st : Stands F limit run n) (points : a .header .pointer ≡ calledAt (length field) (n - k)) where

@@ -10,7 +10,7 @@ both p q = p ∙ sym q
 pub one-answer : OneAnswer
 one-answer =
     record {
-      least = (λ κs a. tt, λ κs a x y e d p q. both p q);
+      lesser = (λ κs a. tt, λ κs a x y e d p q. both p q);
       octet = λ κs a x y e d p q. both (p .0) (q .0);
       octet-across = λ κs a x y e d p q. both (p .0) (q .0);
       number16 = λ κs a x y e d p q. both (p .0) (q .0);
@@ -29,8 +29,8 @@ one-answer =
       close-number = (λ κs a. tt, λ κs a x y e d p q. both p q);
       data-size-for = (λ κs a. tt, λ κs a x y e d p q. both p q);
       close-frame = (λ κs a. tt, λ κs a x y e d p q. (both (p .0) (q .0), both (p .1) (q .1)));
-      frame-header = λ κs a x y e d p q. both p q;
       packet-fits = (λ κs a. tt, λ κs a x y e d p q. both p q);
+      packet-fits-within = (λ κs a. tt, λ κs a x y e d p q. both p q);
       packet-size = (λ κs a. tt, λ κs a x y e d p q. both p q);
       packet-size-across = (λ κs a. tt, λ κs a x y e d p q. both p q);
       front = (λ κs a. tt, λ κs a x y e d p q. both p q);
@@ -47,7 +47,7 @@ one-answer =
       busy-state = (λ κs a. tt, λ κs a x y e d p q. both p q);
       store-fits = (λ κs a. tt, λ κs a x y e d p q. both p q);
       output-fits = (λ κs a. tt, λ κs a x y e d p q. both p q);
-      follows = λ κs a x y e d p q. both p q;
+      follows = (λ κs a. tt, λ κs a x y e d p q. both p q);
       store-place = λ κs a x y e d p q. both p q;
       gap-for = (λ κs a. tt, λ κs a x y e d p q. both p q);
       walk = λ κs a x y e d p q. (both (p .0) (q .0), both (p .1) (q .1));
@@ -85,5 +85,7 @@ one-answer =
       );
       scowdeck-write = (λ κs a. tt, λ κs a x y e d p q. (both (p .number) (q .number), λ i. (both (p .output-left) (q .output-left) i, both (p .answer-left) (q .answer-left) i)));
       scowdeck-busy = (λ κs a. tt, λ κs a x y e d p q. (both (p .mask) (q .mask), both (p .answer-left) (q .answer-left)));
+      scowdeck-open = (λ κs a. tt, λ κs a x y e d p q. (both (p .number) (q .number), both (p .answer-left) (q .answer-left)));
+      scowdeck-close = (λ κs a. tt, λ κs a x y e d p q. (both (p .number) (q .number), both (p .output-left) (q .output-left)));
       scowdeck-syndrome = (λ κs a. tt, λ κs a x y e d p q. both p q);
     }

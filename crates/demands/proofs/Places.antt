@@ -9,10 +9,10 @@ use lib.ListN.{length}
 use Rattle.packet.specs.Chain.{chainOf}
 use Rattle.frame.specs.Counts.{after}
 use Rattle.frame.specs.SetUp.{fitsOf}
-use Rattle.frame.specs.Table.{None}
+use Rattle.table.specs.Table.{None}
 use Rattle.frame.specs.declared.closing.ControlWord.{ControlWord}
 use Rattle.frame.specs.declared.set_up.SetUp.{SetUp}
-use Rattle.frame.proofs.TableLaws.{none-gives}
+use Rattle.table.proofs.Laws.{none-gives}
 use Rattle.writer.specs.Writing.{row24, writeTable, answerOf, nextOf, outputOf, nextPlace, frameWritten}
 use Rattle.writer.specs.declared.writing.Answer.the-variants.{Frame}
 use Rattle.writer.specs.declared.writing.Place.{Place}

@@ -11,7 +11,7 @@ use native.Mathlib.Omega.{arith}
 use lib.ListN.{length}
 use borrow.Author.Tests.{eq-eqb}
 use Rattle.packet.specs.Chain.{distanceOf}
-use Rattle.packet.specs.Family.{Octets}
+use Rattle.octets.specs.Octets.{Octets}
 use Rattle.packet.specs.Theorems.{endToEnd}
 use Rattle.frame.specs.Closing.{closeSize}
 use Rattle.frame.specs.Theorems.{wordNumber}

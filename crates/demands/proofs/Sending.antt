@@ -10,7 +10,8 @@ use lib.Dec.{eqb}
 use lib.ListN.{length, take, drop, length-append, drop-of-length-le}
 use borrow.Author.Tests.{eqb-true, eq-eqb}
 use Rattle.packet.specs.Chain.{distanceOf}
-use Rattle.packet.specs.Family.{Octets, AllWhole}
+use Rattle.octets.specs.Octets.{Octets}
+use Rattle.packet.specs.Family.{AllWhole}
 use Rattle.packet.specs.Size.{source}
 use Rattle.packet.specs.Theorems.{endToEnd}
 use Rattle.packet.proofs.Laws.{source-lawful}
@@ -31,7 +32,7 @@ use Rattle.writer.specs.declared.writing.Place.{Place}
 use Rattle.writer.proofs.Laws.{laid-well}
 use Rattle.writer.proofs.LayingLaws.{length-placed}
 use Rattle.demands.specs.Demand2.{Writing, Fair, frames, fillers, fillerFor, placeAfter}
-use Rattle.demands.specs.Sender.{Mark, Sends, inner, marksOf, laidOut, firstStart, between}
+use Rattle.demands.specs.Sender.{Mark, Sends, inner, marksOf, marksOfAll, firstStart, between}
 use Rattle.demands.specs.Sender.Sends.{packets, idle}
 use Rattle.demands.proofs.Field.{drop-exact, drop-midst}
 use Rattle.demands.proofs.Fillers.{AllIdle, idle-append, whole-append, filler-whole, filler-idle}
@@ -45,7 +46,7 @@ use Rattle.demands.proofs.Written.{openedTo, sent, field-laid}
 record Ahead (ps : List (List ℕ)) (offset : ℕ) : Type 0 where
   rest : List ℕ
   behind : List (List ℕ)
-  marks-are : drop offset (laidOut ps) ≡ inner rest ++ laidOut behind
+  marks-are : drop offset (marksOfAll ps) ≡ inner rest ++ marksOfAll behind
   whole : AllWhole source behind
   distance : distanceOf (endToEnd ps) offset ≡ length rest
 
@@ -56,7 +57,7 @@ ahead-of ps offset w (exact ws [] e k) =
     record {
       rest = [];
       behind = [];
-      marks-are = ap₂ (λ (x : List (List ℕ)) (n : ℕ). drop n (laidOut x)) e k ∙ drop-exact ws [];
+      marks-are = ap₂ (λ (x : List (List ℕ)) (n : ℕ). drop n (marksOfAll x)) e k ∙ drop-exact ws [];
       whole = tt;
       distance = ap₂ (λ (x : List (List ℕ)) (n : ℕ). distanceOf (endToEnd x) n) (e ∙ append-nil ws) k ∙ distance-at-end ws (whole-left source ws [] v);
     }
@@ -66,7 +67,7 @@ ahead-of ps offset w (exact ws (p ∷ behind) e k) =
     record {
       rest = [];
       behind = p ∷ behind;
-      marks-are = ap₂ (λ (x : List (List ℕ)) (n : ℕ). drop n (laidOut x)) e k ∙ drop-exact ws (p ∷ behind);
+      marks-are = ap₂ (λ (x : List (List ℕ)) (n : ℕ). drop n (marksOfAll x)) e k ∙ drop-exact ws (p ∷ behind);
       whole = r;
       distance = ap₂ (λ (x : List (List ℕ)) (n : ℕ). distanceOf (endToEnd x) n) e k
           ∙ distance-exactly ws p behind (whole-left source ws (p ∷ behind) v) (r .0) (r .1) .0;
@@ -78,7 +79,7 @@ ahead-of ps offset w (midst ws begun left behind e k a b) =
     record {
       rest = left;
       behind = behind;
-      marks-are = ap₂ (λ (x : List (List ℕ)) (n : ℕ). drop n (laidOut x)) e k ∙ drop-midst ws behind begun left a;
+      marks-are = ap₂ (λ (x : List (List ℕ)) (n : ℕ). drop n (marksOfAll x)) e k ∙ drop-midst ws behind begun left a;
       whole = r .1;
       distance = ap₂ (λ (x : List (List ℕ)) (n : ℕ). distanceOf (endToEnd x) n) e k
           ∙ distance-exactly ws (begun ++ left) behind (whole-left source ws ((begun ++ left) ∷ behind) v) (r .0) (r .1) .1 (length begun) a
@@ -93,10 +94,10 @@ pointer-first : (ps qs : List (List ℕ)) (offset left D : ℕ) → AllWhole sou
 pointer-first ps qs offset left D w v h few long =
     let a = ahead-of ps offset w (cut-of ps offset h) in
     let t = drop (7 - left) shortIdle in
-    let same : toSend ps offset left qs ≡ inner (t ++ a .rest) ++ laidOut (a .behind ++ qs) =
-    ap (λ (x : List Mark). inner t ++ (x ++ laidOut qs)) (a .marks-are)
-    ∙ ap (λ (x : List Mark). inner t ++ x) (append-assoc (inner (a .rest)) (laidOut (a .behind)) (laidOut qs))
-    ∙ sym (append-assoc (inner t) (inner (a .rest)) (laidOut (a .behind) ++ laidOut qs))
+    let same : toSend ps offset left qs ≡ inner (t ++ a .rest) ++ marksOfAll (a .behind ++ qs) =
+    ap (λ (x : List Mark). inner t ++ (x ++ marksOfAll qs)) (a .marks-are)
+    ∙ ap (λ (x : List Mark). inner t ++ x) (append-assoc (inner (a .rest)) (marksOfAll (a .behind)) (marksOfAll qs))
+    ∙ sym (append-assoc (inner t) (inner (a .rest)) (marksOfAll (a .behind) ++ marksOfAll qs))
     ∙ ap₂ (λ (x y : List Mark). x ++ y) (sym (inner-append t (a .rest))) (sym (laid-append (a .behind) qs)) in
     let l : length (t ++ a .rest) ≡ left + distanceOf (endToEnd ps) offset =
     length-append t (a .rest) ∙ ap₂ (λ (x y : ℕ). x + y) (length-tail left few) (sym (a .distance)) in
@@ -130,8 +131,8 @@ fillers-idle u v run [] p = tt
 fillers-idle u v run (c ∷ cs) p = idle-append (fillerFor _ _) _ (filler-idle _ _) (fillers-idle u v run cs _)
 
 -- between packets
-between-laid : (fs : List (List ℕ)) → AllWhole source fs → between (laidOut fs) ≡ true
-unfolding between laidOut marksOf
+between-laid : (fs : List (List ℕ)) → AllWhole source fs → between (marksOfAll fs) ≡ true
+unfolding between marksOfAll marksOf
 between-laid [] w = refl
 between-laid ([] ∷ fs) w = absurd (omega (arith, whole-some source source-lawful [] (w .0)))
 between-laid ((o ∷ p) ∷ fs) w = refl
@@ -152,12 +153,12 @@ none-left D run offset left e z =
 
 -- at the run's end the left-over is to be sent, then what follows the run; with no left-over that alone
 pub past-run : (ps fs : List (List ℕ)) (offset left : ℕ) → offset ≡ length (endToEnd ps)
-    → toSend ps offset left fs ≡ inner (drop (7 - left) shortIdle) ++ laidOut fs
+    → toSend ps offset left fs ≡ inner (drop (7 - left) shortIdle) ++ marksOfAll fs
 past-run ps fs offset left h =
-    let z : drop offset (laidOut ps) ≡ [] = drop-of-length-le (laidOut ps) {i = offset} (omega (arith, length-laid ps)) in
+    let z : drop offset (marksOfAll ps) ≡ [] = drop-of-length-le (marksOfAll ps) {i = offset} (omega (arith, length-laid ps)) in
     rw z
 
-at-end : (ps fs : List (List ℕ)) (offset left : ℕ) → left ≡ 0 → offset ≡ length (endToEnd ps) → toSend ps offset left fs ≡ laidOut fs
+at-end : (ps fs : List (List ℕ)) (offset left : ℕ) → left ≡ 0 → offset ≡ length (endToEnd ps) → toSend ps offset left fs ≡ marksOfAll fs
 unfolding inner
 at-end ps fs offset left e h = past-run ps fs offset left h ∙ rw e
 
@@ -211,7 +212,7 @@ module _ {u : SetUp} {v : ℕ} (ps : List (List ℕ)) {p : Place} (s : Writes u 
       let before = at-end ps fs (p .offset) (p .«left_over») (y .0) (y .1) in
       let then = at-end ps fs _ _ l r in
       rw (filler-idle-frame n (closeSize u w - n) none, before)
-      (idle (p .count .0) (laidOut fs) (frameWritten u v p w (endToEnd ps)) fr (openedTo u v p w (endToEnd ps)) (sent s real w out e small)
+      (idle (p .count .0) (marksOfAll fs) (frameWritten u v p w (endToEnd ps)) fr (openedTo u v p w (endToEnd ps)) (sent s real w out e small)
       (pointer-nothing (closeSize u w) _ (p .«left_over») _ z) (between-laid fs more) (rw then at on))
 
   step : Sends u v (after (p .count .0)) (later u ps p w fs) fr → Sends u v (p .count .0) (now u ps p w fs) (frameWritten u v p w (endToEnd ps) ∷ fr)

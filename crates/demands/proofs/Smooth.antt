@@ -10,7 +10,7 @@ use lib.ListN.{length, getD, take, drop, replicate}
 use Rattle.octets.specs.Pick.{pick}
 use Rattle.packet.specs.Family.{Family, AllWhole}
 use Rattle.packet.specs.declared.source.Size.{Size}
-use Rattle.walk.specs.Theorems.{Sound}
+use Rattle.walk.specs.Theorems.{Roomy}
 use Rattle.frame.specs.Opening.{noneStarts}
 use Rattle.frame.specs.SetUp.{mostLength}
 use Rattle.frame.specs.declared.header.Header.{Header}
@@ -27,14 +27,14 @@ use Rattle.channel.specs.declared.state.State.{State}
 use Rattle.channel.specs.declared.state.State.the-variants.{Hunting, Gathering, Skipping}
 use Rattle.channel.proofs.Laws.{each-follows}
 use Rattle.reader.specs.Reading.{answerOver, recordOver, storeOver, fieldOf, channelOf, doneBy, reportOf}
-use Rattle.walk.specs.Steps.{Done, only, ended, endedBy, hunted, brokenBy, calledAt, agrees, gathered, skipped, disagreed, resumed, gapFor}
-use Rattle.walk.specs.Walk.{Walked, walkOf}
+use Rattle.walk.specs.Steps.{hunted, brokenBy, calledAt, agrees, gathered, skipped, disagreed, resumed, gapFor}
+use Rattle.walk.specs.Walk.{Done, only, ended, endedBy, Walked, walkOf}
 use Rattle.reader.specs.declared.reading.Answer.the-variants.{Accepted}
 use Rattle.reader.specs.declared.reading.Report.{Report}
 use Rattle.walk.specs.declared.walking.End.{End}
-use Rattle.demands.specs.Demand2.{Roomy, Smooth}
+use Rattle.demands.specs.Demand2.{OutputsPass, Smooth}
 use Rattle.demands.specs.History.{carried}
-use Rattle.demands.specs.Sender.{Sent, laidOut}
+use Rattle.demands.specs.Sender.{Sent, marksOfAll}
 use Rattle.demands.proofs.Calls.{count-lt, read}
 use Rattle.demands.proofs.Frame.{Stand}
 use Rattle.demands.proofs.Frame.Stand.{hunting, between, gathers, skips}
@@ -121,7 +121,7 @@ module _ {F : Family} {limit : ℕ} {c : Channel} {part tail : List ℕ} {ps : L
       go (stale a b i g o n) = absurd (omega arith)
       go (live a b i g o s) = standing s
 
-module _ {F : Family} {limit : ℕ} (G : Sound F limit)
+module _ {F : Family} {limit : ℕ} (G : Roomy F limit)
     {u : SetUp} {v : ℕ} {tail : List ℕ} {ps : List (List ℕ)} {rec : Record} {store : List ℕ} {heard : Bool} {came : List Bool}
     {f : List ℕ} {fs : List (List ℕ)} (w : AllWhole F ps) (k : Kept F limit u v tail ps rec store heard 0 came (f ∷ fs)) (out : List ℕ)
     (room : limit + mostLength ≤ length out) (a : Report) (accepted : answerOver F limit u rec store out f ≡ Accepted a) where
@@ -169,12 +169,12 @@ module _ {F : Family} {limit : ℕ} (G : Sound F limit)
             sym (ap (λ (z : Report). z .gap) e) ∙ gap-none x s,
             sym (ap (λ (z : Report). z .broken) e) ∙ ap (λ (z : Done). z .broken) t
                 ∙ none-busy (reads-at x s) (each-follows F limit store rec .0 (k .fine .follows) (x .header .channel) there)
-                (nothing-to-come (k .to-come) (laidOut (k .behind)) (rw (k .rest-is) at b)),
+                (nothing-to-come (k .to-come) (marksOfAll (k .behind)) (rw (k .rest-is) at b)),
           )
 
-pub smooth : {F : Family} {limit : ℕ} (G : Sound F limit) {u : SetUp} {v : ℕ} {tail : List ℕ} {ps : List (List ℕ)} → AllWhole F ps
+pub smooth : {F : Family} {limit : ℕ} (G : Roomy F limit) {u : SetUp} {v : ℕ} {tail : List ℕ} {ps : List (List ℕ)} → AllWhole F ps
     → (fs outs : List (List ℕ)) (rec : Record) (store : List ℕ)
-    (heard : Bool) (came : List Bool) → Kept F limit u v tail ps rec store heard 0 came fs → Roomy limit outs → Smooth F limit u rec store fs outs
+    (heard : Bool) (came : List Bool) → Kept F limit u v tail ps rec store heard 0 came fs → OutputsPass limit outs → Smooth F limit u rec store fs outs
 smooth G w [] outs rec store heard came k r = tt
 smooth G w (f ∷ fs) [] rec store heard came k r = tt
 smooth {F} {limit} G {u} w (f ∷ fs) (o ∷ os) rec store heard came k r = (

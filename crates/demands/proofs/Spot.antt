@@ -12,7 +12,7 @@ use lib.ListN.{length, take, drop, replicate, length-append, length-replicate, r
 use lib.Seq.{append-snoc, drop-at, take-append-add}
 use Rattle.packet.specs.Family.{Family, Lawful, Whole, AllWhole}
 use Rattle.packet.specs.Theorems.{endToEnd}
-use Rattle.walk.specs.Theorems.{Sound}
+use Rattle.walk.specs.Theorems.{Roomy}
 use Rattle.demands.specs.History.{allArrived, lastIn}
 use Rattle.demands.proofs.Aligned.{AllFit}
 use Rattle.demands.proofs.Due.{arrived-append, all-came, none-came, take-same, long, gone, due, late-all, late-first, early-all, due-all}
@@ -155,7 +155,7 @@ module _ {tail : List ℕ} {ps : List (List ℕ)} {came : List Bool} {q : List �
       }
 
   -- the packets that an arriving frame finishes
-  module _ {F : Family} {limit : ℕ} (G : Sound F limit) (D : ℕ) where
+  module _ {F : Family} {limit : ℕ} (G : Roomy F limit) (D : ℕ) where
     -- if none is under way, those behind q
     free-skips : Free tail ps came q behind → (b : ℕ) (c : List Bool)
         → lastIn limit (length came) b c (length tail) ps ≡ lastIn limit (length came) b c (length came + length q) behind
@@ -259,7 +259,7 @@ module _ {tail : List ℕ} {ps : List (List ℕ)} {came : List Bool} {q : List �
   lost-spot (lost-free s) = free-spot s
   lost-spot (lost-inside begun s) = inside-spot s
 
-  pub lost-none : {F : Family} {limit : ℕ} (G : Sound F limit) (D : ℕ) → Lost tail ps came q behind → AllWhole F behind → D < length q
+  pub lost-none : {F : Family} {limit : ℕ} (G : Roomy F limit) (D : ℕ) → Lost tail ps came q behind → AllWhole F behind → D < length q
       → finishes limit tail ps came D ≡ []
   lost-none {F} {limit} G D (lost-free s) w h =
       let a : ℕ = length came in
@@ -267,7 +267,7 @@ module _ {tail : List ℕ} {ps : List (List ℕ)} {came : List Bool} {q : List �
       free-skips G D s (a + D) c ∙ late-all F (G .laws) limit a (a + D) c (a + length q) behind w (omega arith)
   lost-none {F} {limit} G D (lost-inside begun s) w h = inside-none G D s w h
 
-  pub lost-full : {F : Family} {limit : ℕ} (G : Sound F limit) (D : ℕ) → Lost tail ps came q behind → (ws r : List (List ℕ)) (m : ℕ)
+  pub lost-full : {F : Family} {limit : ℕ} (G : Roomy F limit) (D : ℕ) → Lost tail ps came q behind → (ws r : List (List ℕ)) (m : ℕ)
       → behind ≡ ws ++ r → AllWhole F ws → AllFit limit ws
       → D ≡ length q + m → length (endToEnd ws) ≤ m
       → lastIn limit (length came) (length came + D) (came ++ replicate D true) (length came + length q + length (endToEnd ws)) r ≡ []

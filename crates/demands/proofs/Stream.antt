@@ -15,7 +15,7 @@ use Rattle.packet.specs.Family.{Family, Lawful, Whole, AllWhole}
 use Rattle.packet.specs.Theorems.{endToEnd}
 use Rattle.frame.specs.Opening.{noneStarts}
 use Rattle.walk.specs.Steps.{calledAt}
-use Rattle.demands.specs.Sender.{Mark, inner, marksOf, laidOut, octetsIn, firstStart}
+use Rattle.demands.specs.Sender.{Mark, inner, marksOf, marksOfAll, octetsMarked, firstStart}
 
 -- marks and octets
 pub inner-append : (a b : List ℕ) → inner (a ++ b) ≡ inner a ++ inner b
@@ -28,39 +28,39 @@ unfolding inner
 length-inner [] = refl
 length-inner (o ∷ q) = ap suc (length-inner q)
 
-pub octets-append : (a b : List Mark) → octetsIn (a ++ b) ≡ octetsIn a ++ octetsIn b
-unfolding octetsIn
+pub octets-append : (a b : List Mark) → octetsMarked (a ++ b) ≡ octetsMarked a ++ octetsMarked b
+unfolding octetsMarked
 octets-append [] b = refl
 octets-append (m ∷ a) b = ap (λ (l : List ℕ). m .octet ∷ l) (octets-append a b)
 
-pub octets-inner : (q : List ℕ) → octetsIn (inner q) ≡ q
-unfolding inner octetsIn
+pub octets-inner : (q : List ℕ) → octetsMarked (inner q) ≡ q
+unfolding inner octetsMarked
 octets-inner [] = refl
 octets-inner (o ∷ q) = ap (λ (l : List ℕ). o ∷ l) (octets-inner q)
 
-octets-marks : (p : List ℕ) → octetsIn (marksOf p) ≡ p
-unfolding marksOf octetsIn
+octets-marks : (p : List ℕ) → octetsMarked (marksOf p) ≡ p
+unfolding marksOf octetsMarked
 octets-marks [] = refl
 octets-marks (o ∷ p) = ap (λ (l : List ℕ). o ∷ l) (octets-inner p)
 
-pub octets-laid : (ps : List (List ℕ)) → octetsIn (laidOut ps) ≡ endToEnd ps
-unfolding laidOut octetsIn
+pub octets-laid : (ps : List (List ℕ)) → octetsMarked (marksOfAll ps) ≡ endToEnd ps
+unfolding marksOfAll octetsMarked
 octets-laid [] = refl
-octets-laid (p ∷ ps) = octets-append (marksOf p) (laidOut ps) ∙ ap₂ (λ (a b : List ℕ). a ++ b) (octets-marks p) (octets-laid ps)
+octets-laid (p ∷ ps) = octets-append (marksOf p) (marksOfAll ps) ∙ ap₂ (λ (a b : List ℕ). a ++ b) (octets-marks p) (octets-laid ps)
 
-octets-length : (ms : List Mark) → length (octetsIn ms) ≡ length ms
-unfolding octetsIn
+octets-length : (ms : List Mark) → length (octetsMarked ms) ≡ length ms
+unfolding octetsMarked
 octets-length [] = refl
 octets-length (m ∷ ms) = ap suc (octets-length ms)
 
-pub octets-take : (n : ℕ) (ms : List Mark) → octetsIn (take n ms) ≡ take n (octetsIn ms)
-unfolding octetsIn
+pub octets-take : (n : ℕ) (ms : List Mark) → octetsMarked (take n ms) ≡ take n (octetsMarked ms)
+unfolding octetsMarked
 octets-take zero ms = refl
 octets-take (suc n) [] = refl
 octets-take (suc n) (m ∷ ms) = ap (λ (l : List ℕ). m .octet ∷ l) (octets-take n ms)
 
-pub length-laid : (ps : List (List ℕ)) → length (laidOut ps) ≡ length (endToEnd ps)
-length-laid ps = sym (octets-length (laidOut ps)) ∙ ap length (octets-laid ps)
+pub length-laid : (ps : List (List ℕ)) → length (marksOfAll ps) ≡ length (endToEnd ps)
+length-laid ps = sym (octets-length (marksOfAll ps)) ∙ ap length (octets-laid ps)
 
 pub length-marks : (p : List ℕ) → length (marksOf p) ≡ length p
 length-marks p = sym (octets-length (marksOf p)) ∙ ap length (octets-marks p)
@@ -73,10 +73,10 @@ end-append (p ∷ a) b = ap (λ (l : List ℕ). p ++ l) (end-append a b) ∙ sym
 pub length-end : (a b : List (List ℕ)) → length (endToEnd (a ++ b)) ≡ length (endToEnd a) + length (endToEnd b)
 length-end a b = ap length (end-append a b) ∙ length-append (endToEnd a) (endToEnd b)
 
-pub laid-append : (a b : List (List ℕ)) → laidOut (a ++ b) ≡ laidOut a ++ laidOut b
-unfolding laidOut
+pub laid-append : (a b : List (List ℕ)) → marksOfAll (a ++ b) ≡ marksOfAll a ++ marksOfAll b
+unfolding marksOfAll
 laid-append [] b = refl
-laid-append (p ∷ a) b = ap (λ (l : List Mark). marksOf p ++ l) (laid-append a b) ∙ sym (append-assoc (marksOf p) (laidOut a) (laidOut b))
+laid-append (p ∷ a) b = ap (λ (l : List Mark). marksOf p ++ l) (laid-append a b) ∙ sym (append-assoc (marksOf p) (marksOfAll a) (marksOfAll b))
 
 pub whole-left : (F : Family) (a b : List (List ℕ)) → AllWhole F (a ++ b) → AllWhole F a
 whole-left F [] b w = tt
@@ -103,25 +103,25 @@ first-none [] ms (suc D) i h = absurd (omega arith)
 first-none (o ∷ q) ms (suc D) i h = first-none q ms D (suc i) (omega arith)
 
 first-at : (q p : List ℕ) (ps : List (List ℕ)) (D i : ℕ) → 1 ≤ length p → length q < D
-    → firstStart i (take D (inner q ++ laidOut (p ∷ ps))) ≡ i + length q
-unfolding firstStart inner laidOut marksOf
+    → firstStart i (take D (inner q ++ marksOfAll (p ∷ ps))) ≡ i + length q
+unfolding firstStart inner marksOfAll marksOf
 first-at q p ps zero i h l = absurd (omega arith)
 first-at [] [] ps (suc D) i h l = absurd (omega arith)
 first-at [] (o ∷ p) ps (suc D) i h l = sym (add-zero i)
 first-at (o ∷ q) p ps (suc D) i h l = first-at q p ps D (suc i) h (omega arith) ∙ omega arith
 
-pub pointer-is : (F : Family) (laws : Lawful F) (q : List ℕ) (ps : List (List ℕ)) (D : ℕ) → AllWhole F ps → D ≤ length (inner q ++ laidOut ps)
-    → firstStart 0 (take D (inner q ++ laidOut ps)) ≡ calledAt D (length q)
-unfolding calledAt laidOut
+pub pointer-is : (F : Family) (laws : Lawful F) (q : List ℕ) (ps : List (List ℕ)) (D : ℕ) → AllWhole F ps → D ≤ length (inner q ++ marksOfAll ps)
+    → firstStart 0 (take D (inner q ++ marksOfAll ps)) ≡ calledAt D (length q)
+unfolding calledAt marksOfAll
 pointer-is F laws q ps D w h = go (decLt (length q) D) ps w h
   where
-    go : Dec (length q < D) → (ps : List (List ℕ)) → AllWhole F ps → D ≤ length (inner q ++ laidOut ps)
-        → firstStart 0 (take D (inner q ++ laidOut ps)) ≡ pick (ltb (length q) D) (length q) noneStarts
+    go : Dec (length q < D) → (ps : List (List ℕ)) → AllWhole F ps → D ≤ length (inner q ++ marksOfAll ps)
+        → firstStart 0 (take D (inner q ++ marksOfAll ps)) ≡ pick (ltb (length q) D) (length q) noneStarts
     go (yes l) [] w h = absurd (omega (arith, length-append (inner q) [], length-inner q))
     go (yes l) (p ∷ ps) w h =
         rw (lt-ltb (length q) D l)
         (first-at q p ps D 0 (omega (arith, whole-some F laws p (w .0))) l ∙ zero-add (length q))
-    go (no n) ps w h = rw (le-ltb (length q) D (omega arith)) (first-none q (laidOut ps) D 0 (omega arith))
+    go (no n) ps w h = rw (le-ltb (length q) D (omega arith)) (first-none q (marksOfAll ps) D 0 (omega arith))
 
 -- how n octets of packets laid end to end end: exactly at a packet's end, or in the midst of one
 pub data Cut (n : ℕ) (ps : List (List ℕ)) : Type 0 where

@@ -12,14 +12,16 @@ use lib.ListN.{length, drop}
 use borrow.Author.Tests.{ltb-true, le-leb, ne-eqb, lt-leb}
 use Rattle.octets.specs.Laid.{laid}
 use Rattle.octets.proofs.Runs.{laid-nil}
+use Rattle.octets.specs.Layout as layout
 use Rattle.octets.specs.Numbers.{bitsAt, numberAt}
-use Rattle.packet.specs.Family.{Octets, AllWhole}
+use Rattle.octets.specs.Octets.{Octets}
+use Rattle.packet.specs.Family.{AllWhole}
 use Rattle.packet.specs.Size.{most, sizeOf, idleOf, source}
 use Rattle.frame.specs.Counts.{after}
 use Rattle.frame.specs.Header.{headerOf}
-use Rattle.frame.specs.Opening.{openOf, openFrom, openTable, frameTable, frameOf, secondarySize, dataSize, wordOf, row1, row5, row6, row7, row8, row9, row10, row11, row12}
+use Rattle.frame.specs.Opening.{openOf, openTable, frameTable, frameOf, secondarySize, dataSize, wordOf, row1, row5, row6, row7, row8, row9, row10, row11, row12}
 use Rattle.frame.specs.SetUp.{fitsOf, mostLength}
-use Rattle.frame.specs.Table.{firstCause}
+use Rattle.table.specs.Table.{firstCause}
 use Rattle.frame.specs.declared.opening.Opened.{Opened}
 use Rattle.frame.specs.declared.opening.Refusal.the-variants.{OtherSpacecraft}
 use Rattle.channel.specs.State.{freshRecord}
@@ -30,11 +32,11 @@ use Rattle.channel.proofs.RuleLaws.{both}
 use Rattle.reader.specs.Reading.{answerOver, recordOf, storeOf, readTableOver, reportOf, channelOf, doneBy}
 use Rattle.reader.specs.declared.reading.Refusal.the-variants.{OfFrame, OutputLength, StoreLength}
 use Rattle.demands.specs.History.{Harmless, Refuses, Allowed, Delivers, lastIn, allArrived, wanted, unwanted}
-use Rattle.demands.specs.Sender.{Mark, Sent, Sends, streamOf, inner, marksOf, laidOut, octetsIn, firstStart, between}
+use Rattle.demands.specs.Sender.{Mark, Sent, Sends, streamOf, inner, marksOf, marksOfAll, octetsMarked, firstStart, between}
 use Rattle.demands.specs.Sender.Sends.{no-more, packets, idle}
 use Rattle.demands.specs.Witness.{ours, theirs, earlier, first, second, fourth, fifth, sixth, laidPackets, frame1, frame2, frame3, frame4, frame5, frame6, frame7, frames, elsewhere, history, broughtIn, outputsOf, dueTable, idleTable, Demand3-met}
 use Rattle.demands.proofs.Calls.{Fine, fine-after, others-keep, read}
-use Rattle.walk.proofs.SourceLaws.{source-sound}
+use Rattle.walk.proofs.SourceLaws.{source-roomy}
 use Rattle.demands.proofs.Demand3.{demand3-fresh}
 
 -- octets by a test of each
@@ -59,11 +61,11 @@ sent : (f : List ℕ) (count : ℕ) → below f ≡ true → openOf ours f ≡ O
 sent f count o e c s n = record { real = octets-by f o; opens = e; channel = c; not-private = s; counted = n }
 
 all-whole : AllWhole source laidPackets
-unfolding sizeOf bitsAt numberAt
+unfolding sizeOf layout.valueIn layout.bitsFrom layout.firstAmong layout.widthAmong bitsAt numberAt
 all-whole = (refl, (refl, (refl, (refl, (refl, (refl, (refl, tt)))))))
 
 sends-all : Sends ours 3 254 (streamOf earlier laidPackets) frames
-unfolding below openFrom openTable frameTable frameOf firstCause row1 row5 row6 row7 row8 row9 row10 row11 row12 fitsOf headerOf secondarySize dataSize wordOf bitsAt numberAt after streamOf inner marksOf laidOut octetsIn firstStart between
+unfolding below openOf openTable frameTable frameOf firstCause row1 row5 row6 row7 row8 row9 row10 row11 row12 fitsOf headerOf layout.valueIn layout.firstAmong layout.widthAmong layout.bitsFrom secondarySize dataSize wordOf bitsAt numberAt after streamOf inner marksOf marksOfAll octetsMarked firstStart between
 sends-all =
     let all : List Mark = streamOf earlier laidPackets in
     packets 254 all frame1 _ (frameOf ours frame1) (sent frame1 254 refl refl refl refl refl) (omega arith) refl refl
@@ -78,17 +80,17 @@ sends-all =
 -- an arriving frame keeps record and store fine
 arrived : (f : List ℕ) (rec : Record) (store out : List ℕ) → below f ≡ true → openOf ours f ≡ Opened.Accepted (frameOf ours f)
     → Fine source most rec store → most + mostLength ≤ length out → Fine source most (recordOf ours rec store out f) (storeOf ours rec store out f)
-arrived f rec store out o e k r = fine-after source-sound ours rec store out f (frameOf ours f) k r e (octets-by f o)
+arrived f rec store out o e k r = fine-after source-roomy ours rec store out f (frameOf ours f) k r e (octets-by f o)
 
 -- the calls in between: accepted on channel 5; refused by test 3; refused by test 8
 module _ (rec : Record) (store out : List ℕ) (k : Fine source most rec store) where
   elsewhere-harmless : most + mostLength ≤ length out → Harmless source most 3 ours rec store out elsewhere
-  unfolding openFrom openTable frameTable frameOf firstCause row1 row5 row6 row7 row8 row9 row10 row11 row12 fitsOf headerOf secondarySize dataSize wordOf bitsAt numberAt reportOf
+  unfolding openOf openTable frameTable frameOf firstCause row1 row5 row6 row7 row8 row9 row10 row11 row12 fitsOf headerOf layout.valueIn layout.firstAmong layout.widthAmong layout.bitsFrom secondarySize dataSize wordOf bitsAt numberAt reportOf
   elsewhere-harmless r =
       let x = frameOf ours elsewhere in
       inr (
         reportOf source x (channelOf x rec) (doneBy source most x rec store elsewhere),
-        (sym (read source-sound ours rec store out elsewhere x k r refl .answers), λ z. omega arith),
+        (sym (read source-roomy ours rec store out elsewhere x k r refl .answers), λ z. omega arith),
       )
 
   short-harmless : length out < 6144 → Harmless source most 3 ours rec store out frame6
@@ -96,7 +98,7 @@ module _ (rec : Record) (store out : List ℕ) (k : Fine source most rec store) 
   short-harmless h = inl (OutputLength, rw (k .store-whole, lt-leb 6144 (length out) h))
 
   theirs-harmless : most + mostLength ≤ length out → Harmless source most 3 theirs rec store out frame6
-  unfolding answerOver readTableOver frameTable firstCause row1 row5 row6 row7 row8 fitsOf headerOf bitsAt numberAt storeFits outputFits
+  unfolding answerOver readTableOver frameTable firstCause row1 row5 row6 row7 row8 fitsOf headerOf layout.valueIn layout.firstAmong layout.widthAmong layout.bitsFrom bitsAt numberAt storeFits outputFits
   theirs-harmless r = inl (OfFrame OtherSpacecraft, rw (k .store-whole, le-leb 6144 (length out) r, k .follows))
 
 -- refused by test 2
@@ -105,27 +107,27 @@ unfolding answerOver readTableOver firstCause row1 fitsOf storeFits
 other-store rec store out h = (StoreLength, rw (ne-eqb (length store) 32768 h))
 
 is-due : (out : ℕ → List ℕ) (short store′ : List ℕ) → map (wanted source) (broughtIn ours earlier laidPackets [] frames (history out short store′)) ≡ dueTable
-unfolding broughtIn frameOf headerOf secondarySize dataSize wordOf bitsAt numberAt lastIn allArrived wanted idleOf
+unfolding broughtIn frameOf headerOf layout.valueIn layout.firstAmong layout.widthAmong layout.bitsFrom secondarySize dataSize wordOf bitsAt numberAt lastIn allArrived wanted idleOf
 is-due out short store′ = refl
 
 is-idle : (out : ℕ → List ℕ) (short store′ : List ℕ) → map (unwanted source) (broughtIn ours earlier laidPackets [] frames (history out short store′)) ≡ idleTable
-unfolding broughtIn frameOf headerOf secondarySize dataSize wordOf bitsAt numberAt lastIn allArrived unwanted idleOf
+unfolding broughtIn frameOf headerOf layout.valueIn layout.firstAmong layout.widthAmong layout.bitsFrom secondarySize dataSize wordOf bitsAt numberAt lastIn allArrived unwanted idleOf
 is-idle out short store′ = refl
 
 module _ (store : List ℕ) (out : ℕ → List ℕ) (short store′ : List ℕ) (length-is : length store ≡ 32768) (octets : Octets store)
     (room : (i : ℕ) → 6144 ≤ length (out i)) (too-short : length short < 6144) (not-whole : length store′ ≡ 32768 → ⊥) where
   is-allowed : Allowed source most ours 3 freshRecord store false 0 frames (history out short store′)
-  unfolding below openFrom openTable frameTable frameOf firstCause row1 row5 row6 row7 row8 row9 row10 row11 row12 fitsOf headerOf secondarySize dataSize wordOf bitsAt numberAt storeFits
+  unfolding below openOf openTable frameTable frameOf firstCause row1 row5 row6 row7 row8 row9 row10 row11 row12 fitsOf headerOf layout.valueIn layout.firstAmong layout.widthAmong layout.bitsFrom secondarySize dataSize wordOf bitsAt numberAt storeFits
   is-allowed =
       let k₀ : Fine source most freshRecord store = record { eight = refl; store-whole = length-is; octets = octets; follows = fresh-follows source most store } in
       let k₁ = arrived frame1 freshRecord store (out 1) refl refl k₀ (room 1) in
       let e = elsewhere-harmless _ _ (out 2) k₁ (room 2) in
-      let k₂ = others-keep source-sound 3 ours _ _ (out 2) elsewhere (omega arith) k₁ (octets-by elsewhere refl) e .fine in
+      let k₂ = others-keep source-roomy 3 ours _ _ (out 2) elsewhere (omega arith) k₁ (octets-by elsewhere refl) e .fine in
       let k₃ = arrived frame2 _ _ (out 3) refl refl k₂ (room 3) in
       let k₄ = arrived frame3 _ _ (out 4) refl refl k₃ (room 4) in
       let k₅ = arrived frame4 _ _ (out 5) refl refl k₄ (room 5) in
       let s = short-harmless _ _ short k₅ too-short in
-      let k₆ = others-keep source-sound 3 ours _ _ short frame6 (omega arith) k₅ real6 s .fine in
+      let k₆ = others-keep source-roomy 3 ours _ _ short frame6 (omega arith) k₅ real6 s .fine in
       let t = theirs-harmless _ _ (out 6) k₆ (room 6) in (
         room 1,
         λ z. omega arith,
@@ -155,7 +157,7 @@ module _ (store : List ℕ) (out : ℕ → List ℕ) (short store′ : List ℕ)
 
   is-handed : outputsOf ours freshRecord store frames (history out short store′)
       ≡ out 1 ∷ laid (out 3) 0 first ∷ laid (out 4) 0 second ∷ out 5 ∷ laid (out 8) 0 fourth ∷ laid (out 9) 0 (fifth ++ sixth) ∷ []
-  unfolding frameOf headerOf secondarySize dataSize wordOf bitsAt numberAt lastIn allArrived wanted unwanted idleOf
+  unfolding frameOf headerOf layout.valueIn layout.firstAmong layout.widthAmong layout.bitsFrom secondarySize dataSize wordOf bitsAt numberAt lastIn allArrived wanted unwanted idleOf
   is-handed =
       let d₁ = delivers in
       let d₂ = d₁ .1 in

@@ -9,7 +9,8 @@ use Prim.Native.Nat.{ℕ, _+_, _≤_, _<_}
 use native.Mathlib.Nat.{zero-add}
 use native.Mathlib.Omega.{arith}
 use lib.ListN.{length, replicate}
-use Rattle.packet.specs.Family.{Octets, AllWhole}
+use Rattle.octets.specs.Octets.{Octets}
+use Rattle.packet.specs.Family.{AllWhole}
 use Rattle.packet.specs.Size.{most, source}
 use Rattle.packet.specs.Theorems.{endToEnd}
 use Rattle.packet.proofs.ChainLaws.{chain-exactly}
@@ -20,10 +21,10 @@ use Rattle.channel.specs.State.{freshRecord}
 use Rattle.channel.specs.declared.state.Record.{Record}
 use Rattle.channel.proofs.Laws.{fresh-follows}
 use Rattle.reader.specs.Reading.{recordOver, storeOver}
-use Rattle.walk.proofs.SourceLaws.{source-sound}
+use Rattle.walk.proofs.SourceLaws.{source-roomy}
 use Rattle.writer.specs.declared.writing.Place.{Place}
 use Rattle.writer.proofs.WritingSteps.{border-passes}
-use Rattle.demands.specs.Demand2.{Writing, Fair, Roomy, fillers, frames}
+use Rattle.demands.specs.Demand2.{Writing, Fair, OutputsPass, fillers, frames}
 use Rattle.demands.specs.History.{Allowed, arrivedWhole, wanted}
 use Rattle.demands.specs.History.Event.{arrives}
 use Rattle.demands.specs.Sender.{Sends, streamOf}
@@ -216,7 +217,7 @@ writer-sends u v ps p cs fits channel w real short start left master count fair 
 
 -- where every frame arrives, the history keeps to the conditions of demand 3
 all-arrive : (limit : ℕ) (u : SetUp) (v : ℕ) (fs outs : List (List ℕ)) (rec : Record) (store : List ℕ) (heard : Bool) → length outs ≡ length fs
-    → Roomy limit outs → Allowed source limit u v rec store heard 0 fs (map arrives outs)
+    → OutputsPass limit outs → Allowed source limit u v rec store heard 0 fs (map arrives outs)
 all-arrive limit u v fs [] rec store heard e r = tt
 all-arrive limit u v [] (o ∷ os) rec store heard e r = absurd (omega arith)
 all-arrive limit u v (f ∷ fs) (o ∷ os) rec store heard e r =
@@ -244,7 +245,7 @@ runs-read-back-general limit G u v p rs store outs i ends whole octets many room
     }
 
 pub runs-read-back : Runs-read-back
-runs-read-back = runs-read-back-general most source-sound
+runs-read-back = runs-read-back-general most source-roomy
 
 pub runs-with-losses-general : Runs-with-losses-general
 runs-with-losses-general limit G u v p rs store es i ends whole octets a =
@@ -256,4 +257,4 @@ runs-with-losses-general limit G u v p rs store es i ends whole octets a =
     )
 
 pub runs-with-losses : Runs-with-losses
-runs-with-losses = runs-with-losses-general most source-sound
+runs-with-losses = runs-with-losses-general most source-roomy

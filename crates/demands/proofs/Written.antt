@@ -9,39 +9,24 @@ use lib.Dec.{eqb, leb}
 use lib.ListN.{length, take, drop, replicate}
 use Rattle.octets.specs.Numbers.{octetsOf}
 use Rattle.octets.specs.Pick.{pick}
-use Rattle.frame.specs.Closing.{closeSize, flaggedBy, wordOctets, headerOctets, withCheck, frameAround}
+use Rattle.octets.proofs.OctetLaws.{octets-append, octets-drop, octets-same, octets-take}
+use Rattle.octets.proofs.Runs.{octets-lt}
+use Rattle.frame.specs.Closing.{closeSize, flaggedBy}
 use Rattle.frame.specs.Theorems.{wordNumber}
 use Rattle.frame.specs.declared.closing.ControlWord.{ControlWord}
-use Rattle.frame.specs.declared.closing.ControlWord.the-variants.{Absent, Present}
 use Rattle.frame.specs.declared.opening.Frame.{Frame}
 use Rattle.frame.specs.declared.set_up.SetUp.{SetUp}
+use Rattle.frame.proofs.Laws.{around-octets}
 use Rattle.reader.specs.Reading as reading
-use Rattle.walk.proofs.OctetLaws.{octets-append, octets-drop, octets-take}
 use Rattle.writer.specs.Laying.{idlePacket, shortIdle, leftPart, runPart, placedPart, fillerOf, fieldOf}
 use Rattle.writer.specs.Writing.{frameWritten, laidField, laidPointer}
 use Rattle.writer.specs.declared.writing.Place.{Place}
 use Rattle.writer.proofs.Laws.{written-opens}
-use Rattle.packet.specs.Family.{Octets}
+use Rattle.octets.specs.Octets.{Octets}
 use Rattle.demands.specs.Sender.{Sent}
 use Rattle.demands.proofs.Places.{Writes, answers}
 
 -- octets
-no-octets : Octets []
-no-octets i = omega arith
-
-more-octets : (o : ℕ) (l : List ℕ) → o < 256 → Octets l → Octets (o ∷ l)
-more-octets o l h k zero = h
-more-octets o l h k (suc i) = k i
-
-octets-of : (n v : ℕ) → Octets (octetsOf n v)
-unfolding octetsOf
-octets-of zero v = no-octets
-octets-of (suc n) v = more-octets _ (octetsOf n v) (omega arith) (octets-of n v)
-
-octets-same : (n o : ℕ) → o < 256 → Octets (replicate n o)
-octets-same zero o h = no-octets
-octets-same (suc n) o h = more-octets o (replicate n o) h (octets-same n o h)
-
 header-octets : Octets (0x07 ∷ 0xFF ∷ 0xC0 ∷ 0x00 ∷ [])
 header-octets zero = omega arith
 header-octets (suc zero) = omega arith
@@ -62,7 +47,7 @@ idle-octets : (n : ℕ) → Octets (idlePacket n)
 unfolding idlePacket
 idle-octets n =
     octets-append ((0x07 ∷ 0xFF ∷ 0xC0 ∷ 0x00 ∷ []) ++ octetsOf 2 (n - 7)) (replicate (n - 6) 0x55)
-    (octets-append (0x07 ∷ 0xFF ∷ 0xC0 ∷ 0x00 ∷ []) (octetsOf 2 (n - 7)) header-octets (octets-of 2 (n - 7)))
+    (octets-append (0x07 ∷ 0xFF ∷ 0xC0 ∷ 0x00 ∷ []) (octetsOf 2 (n - 7)) header-octets (octets-lt 2 (n - 7)))
     (octets-same (n - 6) 0x55 (omega arith))
 
 filler-octets : (placed room : ℕ) → Octets (fillerOf placed room)
@@ -83,29 +68,11 @@ field-octets D run offset left h =
     (octets-take (drop offset run) (D - length (leftPart D left)) (octets-drop run offset h)))
     (filler-octets (length (placedPart D run offset left)) (D - length (placedPart D run offset left)))
 
-word-octets : (w : ControlWord) → Octets (wordOctets w)
-unfolding wordOctets
-word-octets Absent = no-octets
-word-octets (Present n) = octets-of 4 n
-
-check-octets : (u : SetUp) (f : List ℕ) → Octets f → Octets (withCheck u f)
-unfolding withCheck
-check-octets u f h = octets-append f _ h (go (u .«error_control») _)
-  where
-    go : (b : Bool) (n : ℕ) → Octets (pick b (octetsOf 2 n) [])
-    go true n = octets-of 2 n
-    go false n = no-octets
-
 pub frame-octets : (u : SetUp) (v : ℕ) (p : Place) (w : ControlWord) (run : List ℕ) → Octets run → Octets (frameWritten u v p w run)
-unfolding frameWritten frameAround headerOctets
+unfolding frameWritten
 frame-octets u v p w run h =
-    let f = laidField u w run p in
-    check-octets u _
-    (octets-append (headerOctets u v (p .master) (p .count) (flaggedBy w) (laidPointer u w run p) ++ f) (wordOctets w)
-    (octets-append (headerOctets u v (p .master) (p .count) (flaggedBy w) (laidPointer u w run p)) f
-    (octets-of 6 _)
-    (field-octets (closeSize u w) run (p .offset) (p .«left_over») h))
-    (word-octets w))
+    around-octets u v (p .master) (p .count) w (laidPointer u w run p) (laidField u w run p)
+    (field-octets (closeSize u w) run (p .offset) (p .«left_over») h)
 
 -- what the frame opens to
 abbrev pub openedTo : SetUp → ℕ → Place → ControlWord → List ℕ → Frame

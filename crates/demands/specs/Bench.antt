@@ -27,8 +27,8 @@ bench = record { length = 20; spacecraft = 171; «error_control» = false }
 abbrev pub benchOf : ℕ → SetUp
 benchOf N = record { length = N; spacecraft = 171; «error_control» = false }
 
-abbrev pub placeOf : ℕ → ℕ → ℕ → Place
-placeOf left master count = record { offset = 0; «left_over» = left; master = record { 0 = master }; count = record { 0 = count } }
+abbrev pub benchPlace : ℕ → ℕ → ℕ → Place
+benchPlace left master count = record { offset = 0; «left_over» = left; master = record { 0 = master }; count = record { 0 = count } }
 
 -- B1's run
 abbrev pub run : List ℕ
@@ -75,9 +75,9 @@ abbrev pub writingNumber : SetUp → ℕ → Place → ControlWord → List ℕ 
 writingNumber u v p word r out = getD (writing.valuesOf (write.answerOf u v p r out) (write.nextOf u v p word r out)) 0 0 ∷ []
 
 -- how many packets a reading finishes: none if it is refused
-abbrev pub finished : Answer → ℕ
-finished (Refused r) = 0
-finished (Accepted a) = a .delivered + a .idle
+abbrev pub packetsFinished : Answer → ℕ
+packetsFinished (Refused r) = 0
+packetsFinished (Accepted a) = a .delivered + a .idle
 
 -- a record in which channel 3 was heard, last with this count, and hunts
 abbrev pub heardAt : ℕ → Record
@@ -127,11 +127,11 @@ benchTable i =
     let rec₂ : Record = read.recordOf bench rec₁ store₁ (i .out₂) frame2 in
     let store₂ : List ℕ = read.storeOf bench rec₁ store₁ (i .out₂) frame2 in
     -- B1: left-over 1
-    line (written (placeOf 0 9 4) run (i .w)) (0 ∷ 8 ∷ 1 ∷ 10 ∷ 5 ∷ frame1)
+    line (written (benchPlace 0 9 4) run (i .w)) (0 ∷ 8 ∷ 1 ∷ 10 ∷ 5 ∷ frame1)
     -- B2: then the empty run, left-over 0
-    ∷ line (written (placeOf 1 10 5) [] (i .w)) (0 ∷ 0 ∷ 0 ∷ 11 ∷ 6 ∷ frame2)
+    ∷ line (written (benchPlace 1 10 5) [] (i .w)) (0 ∷ 0 ∷ 0 ∷ 11 ∷ 6 ∷ frame2)
     -- B3: then the empty run
-    ∷ line (written (placeOf 0 11 6) [] (i .w)) (0 ∷ 0 ∷ 0 ∷ 12 ∷ 7 ∷ frame3)
+    ∷ line (written (benchPlace 0 11 6) [] (i .w)) (0 ∷ 0 ∷ 0 ∷ 12 ∷ 7 ∷ frame3)
     -- B4: reading B1, B2, B3 fresh: delivered 1 (8 octets); idle 2; idle frame
     ∷ line (told freshRecord (i .store) (i .out₁) frame1) (values 1 9 4 0 0 1 0 0)
     ∷ line (take 8 (read.outputOf bench freshRecord (i .store) (i .out₁) frame1)) run
@@ -150,7 +150,7 @@ benchTable i =
     ∷ line (writingNumber (benchOf 12) (i .any-channel) (i .any-place) (i .any-word) (i .any-run) (i .any-output)) (1 ∷ [])
     ∷ line (writingNumber (benchOf 2049) (i .any-channel) (i .any-place) (i .any-word) (i .any-run) (i .any-output)) (1 ∷ [])
     -- B8: D = 2,042 finishes at most 292, in any reading
-    ∷ at-most (finished (read.answerOf (i .u) (i .rec) (i .any-store) (i .any-out) (i .f))) 292
+    ∷ at-most (packetsFinished (read.answerOf (i .u) (i .rec) (i .any-store) (i .any-out) (i .f))) 292
     ∷ []
 
 -- the claim

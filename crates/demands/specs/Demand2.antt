@@ -7,10 +7,12 @@ use Prim.Native.Nat.{ℕ, _+_, _-_, _*_, _^_, _≤_, _<_}
 use lib.Dec.{eqb, leb}
 use lib.ListN.{length, drop}
 use Rattle.octets.specs.Pick.{pick}
-use Rattle.packet.specs.Family.{Family, Octets, AllWhole}
+use Rattle.octets.specs.Octets.{Octets}
+use Rattle.packet.specs.Family.{Family, AllWhole}
 use Rattle.packet.specs.Size.{least, most, source}
 use Rattle.packet.specs.Theorems.{endToEnd}
-use Rattle.frame.specs.Closing.{channels, closeSize}
+use Rattle.frame.specs.Header.{channels}
+use Rattle.frame.specs.Closing.{closeSize}
 use Rattle.frame.specs.SetUp.{fitsOf, mostLength}
 use Rattle.frame.specs.Theorems.{wordNumber}
 use Rattle.frame.specs.declared.closing.ControlWord.{ControlWord}
@@ -20,14 +22,14 @@ use Rattle.channel.specs.declared.state.Record.{Record}
 use Rattle.reader.specs.Reading as read
 use Rattle.reader.specs.declared.reading.Answer.the-variants.{Accepted}
 use Rattle.reader.specs.declared.reading.Report.{Report}
-use Rattle.walk.specs.Theorems.{Sound}
+use Rattle.walk.specs.Theorems.{Roomy}
 use Rattle.writer.specs.Laying.{idlePacket, mostLeft, placedPart, shortIdle}
 use Rattle.writer.specs.Writing as write
 use Rattle.writer.specs.declared.writing.Answer.the-variants.{Frame}
 use Rattle.writer.specs.declared.writing.Place.{Place}
 use Rattle.demands.specs.History.{arrives, Delivers, handedOut, wanted}
 
--- a call of the writer: its control word, "as they please", and the output that it is lent
+-- a call of the writer: its control word, any one or none, and the output that it is lent
 pub record Writing : Type 0 where
   pub word : ControlWord
   pub out : List ℕ
@@ -65,9 +67,9 @@ fillers u v run p (c ∷ cs) =
     fillerFor n (D - n) ++ fillers u v run (write.nextOf u v p (c .word) run (c .out)) cs
 
 -- what a reader is lent for each frame, and that each output passes test 3
-abbrev pub Roomy : ℕ → List (List ℕ) → Type 0
-Roomy limit [] = Unit {0}
-Roomy limit (o ∷ os) = (limit + mostLength ≤ length o) × Roomy limit os
+abbrev pub OutputsPass : ℕ → List (List ℕ) → Type 0
+OutputsPass limit [] = Unit {0}
+OutputsPass limit (o ∷ os) = (limit + mostLength ≤ length o) × OutputsPass limit os
 
 -- call by call: gap and broken stay 0
 abbrev pub Smooth : Family → ℕ → SetUp → Record → List ℕ → List (List ℕ) → List (List ℕ) → Type 0
@@ -102,12 +104,12 @@ abbrev pub Demand2Over : ℕ → Type 0
 Demand2Over limit = (u : SetUp) (v : ℕ) (ps : List (List ℕ)) (p : Place) (cs : List Writing) (store : List ℕ) (outs : List (List ℕ))
     → fitsOf u ≡ true → v < channels → AllWhole source ps → Octets (endToEnd ps) → length (endToEnd ps) ≤ write.mostRun
     → p .offset ≡ 0 → p .«left_over» ≤ mostLeft → p .master .0 < 256 → p .count .0 < 256 → Fair u cs
-    → length store ≡ limit * channels → Octets store → length outs ≡ length cs → Roomy limit outs
+    → length store ≡ limit * channels → Octets store → length outs ≡ length cs → OutputsPass limit outs
     → ReadsBack limit u v ps p cs store outs
 
 -- it holds for every limit that is wide enough
 abbrev pub Demand2-general : Type 0
-Demand2-general = (limit : ℕ) → Sound source limit → Demand2Over limit
+Demand2-general = (limit : ℕ) → Roomy source limit → Demand2Over limit
 
 -- and so for packets of up to 4,096 octets
 abbrev pub Demand2 : Type 0

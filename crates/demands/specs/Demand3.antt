@@ -7,14 +7,15 @@ use mathlib.Core.Bool.{true, false}
 use mathlib.Core.List.{List, []}
 use Prim.Native.Nat.{ℕ, _*_, _<_}
 use lib.ListN.{length, getD}
-use Rattle.packet.specs.Family.{Family, Octets, AllWhole}
+use Rattle.octets.specs.Octets.{Octets}
+use Rattle.packet.specs.Family.{Family, AllWhole}
 use Rattle.packet.specs.Size.{most, source}
-use Rattle.frame.specs.Closing.{channels}
+use Rattle.frame.specs.Header.{channels}
 use Rattle.frame.specs.declared.set_up.SetUp.{SetUp}
 use Rattle.channel.specs.Rules.{recordFollows}
 use Rattle.channel.specs.State.{freshChannel, freshRecord}
 use Rattle.channel.specs.declared.state.Record.{Record}
-use Rattle.walk.specs.Theorems.{Sound}
+use Rattle.walk.specs.Theorems.{Roomy}
 use Rattle.demands.specs.History.{Event, Allowed, Delivers, arrivedWhole, cameAfter, handedOut, wanted}
 use Rattle.demands.specs.Sender.{Sends, streamOf}
 
@@ -30,7 +31,7 @@ Demand3Over F limit = (u : SetUp) (v count : ℕ) (tail : List ℕ) (ps fs : Lis
 
 -- it holds of every family that keeps the laws of one, and of every limit that is wide enough
 abbrev pub Demand3-general : Type 0
-Demand3-general = (F : Family) (limit : ℕ) → Sound F limit → Demand3Over F limit
+Demand3-general = (F : Family) (limit : ℕ) → Roomy F limit → Demand3Over F limit
 
 -- and so of source packets of up to 4,096 octets
 abbrev pub Demand3 : Type 0
@@ -59,7 +60,7 @@ Demand3-togetherOver F limit = (u : SetUp) (v count : ℕ) (tail : List ℕ) (ps
 
 -- it holds of every family that keeps the laws of one, and of every limit that is wide enough
 abbrev pub Demand3-together-general : Type 0
-Demand3-together-general = (F : Family) (limit : ℕ) → Sound F limit → Demand3-togetherOver F limit
+Demand3-together-general = (F : Family) (limit : ℕ) → Roomy F limit → Demand3-togetherOver F limit
 
 -- and so of source packets of up to 4,096 octets
 abbrev pub Demand3-together : Type 0

@@ -10,7 +10,8 @@ use lib.ListN.{length, take, drop, replicate}
 use Rattle.octets.specs.Laid.{laid}
 use Rattle.octets.specs.Pick.{pick}
 use Rattle.packet.specs.Chain.{wholeIn}
-use Rattle.packet.specs.Family.{Family, Octets}
+use Rattle.octets.specs.Octets.{Octets}
+use Rattle.packet.specs.Family.{Family}
 use Rattle.packet.specs.Theorems.{endToEnd}
 use Rattle.frame.specs.Opening.{frameOf, idleData}
 use Rattle.frame.specs.SetUp.{mostLength}

@@ -25,7 +25,7 @@ use Rattle.reader.specs.declared.reading.Kind.the-variants.{Packets}
 use Rattle.reader.specs.declared.reading.Report.{Report}
 use Rattle.demands.specs.History.{wanted, unwanted}
 
--- "each packet handed out is whole by its own header, not idle, at most the limit"
+-- each packet handed out is whole by its own header, not idle, at most the limit
 pub record Proper (F : Family) (limit : ℕ) (p : List ℕ) : Type 0 where
   pub whole : Whole F p
   pub not-idle : F .idle p ≡ false
@@ -36,12 +36,12 @@ AllProper F limit [] = Unit {0}
 AllProper F limit (p ∷ ps) = Proper F limit p × AllProper F limit ps
 
 -- a packet was under way and this frame carries it on: c is the channel's record before the call, a the call's answer
-pub record UnderWay (c : Channel) (a : Report) (k : ℕ) : Type 0 where
-  -- "only if the channel was gathering them": k octets, at least one
+pub record CarriedOn (c : Channel) (a : Report) (k : ℕ) : Type 0 where
+  -- the channel was gathering them: k octets, at least one
   pub heard : c .heard ≡ true
   pub gathering : c .state ≡ Gathering k
   pub some-held : 1 ≤ k
-  -- "the gap is 0", and so the frame's count is the one after the last
+  -- the gap is 0, and so the frame's count is the one after the last
   pub no-gap : a .gap ≡ 0
   pub next : c .last .0 < 256 → a .header .count .0 ≡ after (c .last .0)
   -- and nothing is reported against it
@@ -55,18 +55,18 @@ PointsBehind D end pointer = ((end < D) × (pointer ≡ end)) ⊎ ((end ≡ D) �
 -- this field ends it, and p is the whole of it; `part` is the channel's part of the store before the call
 pub record Continued (c : Channel) (part field : List ℕ) (a : Report) (p : List ℕ) : Type 0 where
   pub k : ℕ
-  pub under-way : UnderWay c a k
+  pub under-way : CarriedOn c a k
   pub some-new : k < length p
   pub ends-here : length p ≤ k + length field
-  -- "held octets followed by octets of this field": the k held ones, then the first of this field
+  -- held octets followed by octets of this field: the k held ones, then the first of this field
   pub octets : p ≡ take k part ++ take (length p - k) field
-  -- "the pointer agrees"
+  -- the pointer agrees
   pub points : PointsBehind (length field) (length p - k) (a .header .pointer)
 
 -- this field does not end it, and what was held and all of this field is held on
 pub record GoesOn (c : Channel) (part field : List ℕ) (a : Report) (held : List ℕ) : Type 0 where
   pub k : ℕ
-  pub under-way : UnderWay c a k
+  pub under-way : CarriedOn c a k
   pub octets : held ≡ take k part ++ field
   -- "goes on beyond, or its length is still unknown, the pointer must be 2047"
   pub points : a .header .pointer ≡ noneStarts
@@ -85,7 +85,7 @@ pub data Held (c : Channel) (part field : List ℕ) (a : Report) (finished : Lis
 -- where the packets that a call finished, and the octets that it holds, come from
 pub record Origin (F : Family) (c : Channel) (part field : List ℕ) (a : Report) (finished : List (List ℕ)) (held : List ℕ) : Type 0 where
   pub all-whole : AllWhole F finished
-  -- "otherwise all lie side by side in this field": from the pointer on, packet behind packet; 2047 is behind every field
+  -- otherwise all lie side by side in this field: from the pointer on, packet behind packet; 2047 is behind every field
   pub inside : List (List ℕ)
   pub behind : List ℕ
   pub side-by-side : drop (a .header .pointer) field ≡ endToEnd inside ++ behind

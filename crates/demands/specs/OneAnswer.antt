@@ -21,19 +21,19 @@ use Rattle.octets.proofs.put16 as put16
 use Rattle.octets.proofs.put32 as put32
 use Rattle.octets.proofs.copy as copy
 use Rattle.octets.proofs.fill as fill
-use Rattle.octets.proofs.least as least
+use Rattle.octets.proofs.lesser as lesser
 use Rattle.crc.proofs.syndrome as syndrome
 use Rattle.frame.proofs.set_up.SetUp.fits as set-up-fits
 use Rattle.frame.proofs.counts.MasterCount.next as master-next
 use Rattle.frame.proofs.counts.ChannelCount.next as channel-next
 use Rattle.frame.proofs.counts.ChannelCount.gap as gap
-use Rattle.frame.proofs.header.Header.of as frame-header
 use Rattle.frame.proofs.open as open-frame
 use Rattle.frame.proofs.opening.Refusal.number as open-number
 use Rattle.frame.proofs.closing.CloseRefusal.number as close-number
 use Rattle.frame.proofs.data_size_for as data-size-for
 use Rattle.frame.proofs.close as close-frame
 use Rattle.packet.proofs.source.Packet.fits as packet-fits
+use Rattle.packet.proofs.source.Packet.fits_within as packet-fits-within
 use Rattle.packet.proofs.source.Packet.idle as packet-idle
 use Rattle.packet.proofs.source.Packet.idle_across as packet-idle-across
 use Rattle.packet.proofs.source.Packet.total as packet-total
@@ -64,6 +64,8 @@ use Rattle.writer.proofs.write as write
 use Rattle.host.proofs.scowdeck_read as scowdeck-read
 use Rattle.host.proofs.scowdeck_write as scowdeck-write
 use Rattle.host.proofs.scowdeck_busy as scowdeck-busy
+use Rattle.host.proofs.scowdeck_open as scowdeck-open
+use Rattle.host.proofs.scowdeck_close as scowdeck-close
 use Rattle.host.proofs.scowdeck_syndrome as scowdeck-syndrome
 
 -- what a contract says of the arguments, the result and the parameters at exit, of an operation of this signature
@@ -115,7 +117,7 @@ readLearnt κs a r e = AllOf (read-told κs a r e .tells)
 
 pub record OneAnswer : Type 0 where
   -- octets
-  pub least : Answers least.ended least.Reads.Asked least.Reads.Learnt
+  pub lesser : Answers lesser.ended lesser.Reads.Asked lesser.Reads.Learnt
   -- parts of octets that ask something of their arguments (decision 15)
   pub octet : One octet.ended octet.Reads.Learnt
   pub octet-across : One octet-across.ended octet-across.Reads.Learnt
@@ -138,10 +140,9 @@ pub record OneAnswer : Type 0 where
   pub data-size-for : Answers data-size-for.ended data-size-for.Reads.Asked data-size-for.Reads.Learnt
   pub close-frame : AnswersLeft close-frame.ended close-frame.Reads.Asked close-frame.Reads.Learnt
       (λ κs e. now (e .1 .1 .1 .1 .1 .1 .0))
-  -- parts of frame that ask something of their arguments (decision 15)
-  pub frame-header : One frame-header.ended frame-header.Reads.Learnt
   -- packet
   pub packet-fits : Answers packet-fits.ended packet-fits.Reads.Asked packet-fits.Reads.Learnt
+  pub packet-fits-within : Answers packet-fits-within.ended packet-fits-within.Reads.Asked packet-fits-within.Reads.Learnt
   pub packet-size : Answers packet-size.ended packet-size.Reads.Asked packet-size.Reads.Learnt
   pub packet-size-across : Answers packet-size-across.ended packet-size-across.Reads.Asked packet-size-across.Reads.Learnt
   pub front : Answers front.ended front.Reads.Asked front.Reads.Learnt
@@ -160,8 +161,8 @@ pub record OneAnswer : Type 0 where
   pub busy-state : Answers busy-state.ended busy-state.Reads.Asked busy-state.Reads.Learnt
   pub store-fits : Answers store-fits.ended store-fits.Reads.Asked store-fits.Reads.Learnt
   pub output-fits : Answers output-fits.ended output-fits.Reads.Asked output-fits.Reads.Learnt
-  -- parts of channel that ask something of their arguments (decision 15)
-  pub follows : One follows.ended follows.Reads.Learnt
+  pub follows : Answers follows.ended follows.Reads.Asked follows.Reads.Learnt
+  -- a part of channel that asks something of its arguments (decision 15)
   pub store-place : One store-place.ended store-place.Reads.Learnt
   -- walk
   pub gap-for : Answers gap-for.ended gap-for.Reads.Asked gap-for.Reads.Learnt
@@ -186,4 +187,8 @@ pub record OneAnswer : Type 0 where
   pub scowdeck-write : AnswersLeft {A = List ℕ × List ℕ} scowdeck-write.ended scowdeck-write.Reads.Asked scowdeck-write.Reads.Learnt
       (λ κs e. (now (e .1 .1 .1 .1 .1 .1 .1 .1 .1 .1 .1 .0), now (e .1 .1 .1 .1 .1 .1 .1 .1 .1 .1 .1 .1 .0)))
   pub scowdeck-busy : AnswersLeft scowdeck-busy.ended scowdeck-busy.Reads.Asked scowdeck-busy.Reads.Learnt (λ κs e. now (e .1 .0))
+  pub scowdeck-open : AnswersLeft scowdeck-open.ended scowdeck-open.Reads.Asked scowdeck-open.Reads.Learnt
+      (λ κs e. now (e .1 .1 .1 .1 .0))
+  pub scowdeck-close : AnswersLeft scowdeck-close.ended scowdeck-close.Reads.Asked scowdeck-close.Reads.Learnt
+      (λ κs e. now (e .1 .1 .1 .1 .1 .1 .1 .1 .1 .0))
   pub scowdeck-syndrome : Answers scowdeck-syndrome.ended scowdeck-syndrome.Reads.Asked scowdeck-syndrome.Reads.Learnt

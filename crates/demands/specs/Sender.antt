@@ -5,7 +5,7 @@ use mathlib.Core.List.{List, [], _∷_, _++_}
 use Prim.Native.Nat.{ℕ, suc, _≤_}
 use lib.ListN.{length, take, drop}
 use Rattle.octets.specs.Pick.{pick}
-use Rattle.packet.specs.Family.{Octets}
+use Rattle.octets.specs.Octets.{Octets}
 use Rattle.frame.specs.Counts.{after}
 use Rattle.frame.specs.Opening.{openOf, idleData, noneStarts}
 use Rattle.frame.specs.declared.opening.Frame.{Frame}
@@ -29,17 +29,17 @@ marksOf [] = []
 marksOf (o ∷ p) = record { octet = o; starts = true } ∷ inner p
 
 -- packets laid end to end
-unfoldable pub laidOut : List (List ℕ) → List Mark
-laidOut [] = []
-laidOut (p ∷ ps) = marksOf p ++ laidOut ps
+unfoldable pub marksOfAll : List (List ℕ) → List Mark
+marksOfAll [] = []
+marksOfAll (p ∷ ps) = marksOf p ++ marksOfAll ps
 
 -- what the sender has to send: perhaps the tail of an earlier packet, then the packets
 unfoldable pub streamOf : List ℕ → List (List ℕ) → List Mark
-streamOf tail ps = inner tail ++ laidOut ps
+streamOf tail ps = inner tail ++ marksOfAll ps
 
-unfoldable pub octetsIn : List Mark → List ℕ
-octetsIn [] = []
-octetsIn (m ∷ ms) = m .octet ∷ octetsIn ms
+unfoldable pub octetsMarked : List Mark → List ℕ
+octetsMarked [] = []
+octetsMarked (m ∷ ms) = m .octet ∷ octetsMarked ms
 
 -- the pointer: the place of the first packet start, counted from i; 2047 if none starts
 unfoldable pub firstStart : ℕ → List Mark → ℕ
@@ -64,7 +64,7 @@ pub record Sent (u : SetUp) (v : ℕ) (count : ℕ) (f : List ℕ) (x : Frame) :
 pub data Sends (u : SetUp) (v : ℕ) : ℕ → List Mark → List (List ℕ) → Type 0 where
   no-more : (count : ℕ) (rest : List Mark) → Sends u v count rest []
   packets : (count : ℕ) (rest : List Mark) (f : List ℕ) (fs : List (List ℕ)) (x : Frame) → Sent u v count f x
-      → x .size ≤ length rest → fieldOf x f ≡ octetsIn (take (x .size) rest) → x .header .pointer ≡ firstStart 0 (take (x .size) rest)
+      → x .size ≤ length rest → fieldOf x f ≡ octetsMarked (take (x .size) rest) → x .header .pointer ≡ firstStart 0 (take (x .size) rest)
       → Sends u v (after count) (drop (x .size) rest) fs → Sends u v count rest (f ∷ fs)
   idle : (count : ℕ) (rest : List Mark) (f : List ℕ) (fs : List (List ℕ)) (x : Frame) → Sent u v count f x
       → x .header .pointer ≡ idleData → between rest ≡ true → Sends u v (after count) rest fs → Sends u v count rest (f ∷ fs)

@@ -5,7 +5,8 @@ use mathlib.Core.List.{List, [], _∷_, _++_, map}
 use Prim.Native.Nat.{ℕ, _≤_, _<_}
 use lib.ListN.{length, replicate}
 use Rattle.octets.specs.Laid.{laid}
-use Rattle.packet.specs.Family.{Octets, AllWhole}
+use Rattle.octets.specs.Octets.{Octets}
+use Rattle.packet.specs.Family.{AllWhole}
 use Rattle.packet.specs.Size.{most, source}
 use Rattle.frame.specs.declared.set_up.SetUp.{SetUp}
 use Rattle.channel.specs.State.{freshRecord}

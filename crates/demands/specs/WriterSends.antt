@@ -5,18 +5,19 @@ use mathlib.Core.Bool.{true, false}
 use mathlib.Core.List.{List, [], _∷_, _++_, map}
 use Prim.Native.Nat.{ℕ, _+_, _-_, _*_, _≤_, _<_}
 use lib.ListN.{length, drop}
-use Rattle.packet.specs.Family.{Octets, AllWhole}
+use Rattle.octets.specs.Octets.{Octets}
+use Rattle.packet.specs.Family.{AllWhole}
 use Rattle.packet.specs.Size.{least, most, source}
 use Rattle.packet.specs.Theorems.{endToEnd}
-use Rattle.frame.specs.Closing.{channels}
+use Rattle.frame.specs.Header.{channels}
 use Rattle.frame.specs.SetUp.{fitsOf}
 use Rattle.frame.specs.declared.set_up.SetUp.{SetUp}
 use Rattle.channel.specs.State.{freshRecord}
-use Rattle.walk.specs.Theorems.{Sound}
+use Rattle.walk.specs.Theorems.{Roomy}
 use Rattle.writer.specs.Laying.{mostLeft, shortIdle}
 use Rattle.writer.specs.Writing.{mostRun}
 use Rattle.writer.specs.declared.writing.Place.{Place}
-use Rattle.demands.specs.Demand2.{Writing, Fair, NoneRefused, Roomy, Smooth, fillers, fitting, frames, placeAfter}
+use Rattle.demands.specs.Demand2.{Writing, Fair, NoneRefused, OutputsPass, Smooth, fillers, fitting, frames, placeAfter}
 use Rattle.demands.specs.History.{Event, arrives, Allowed, Delivers, arrivedWhole, cameAfter, handedOut, wanted}
 use Rattle.demands.specs.Sender.{Sends, streamOf}
 
@@ -136,12 +137,12 @@ pub record Back (limit : ℕ) (u : SetUp) (v : ℕ) (p : Place) (rs : List Run) 
 abbrev pub Runs-read-backOver : ℕ → Type 0
 Runs-read-backOver limit = (u : SetUp) (v : ℕ) (p : Place) (rs : List Run) (store : List ℕ) (outs : List (List ℕ))
     → Writable u v p rs → All-but-last-to-the-end u v p rs
-    → length store ≡ limit * channels → Octets store → length outs ≡ length (framesOf u v p rs) → Roomy limit outs
+    → length store ≡ limit * channels → Octets store → length outs ≡ length (framesOf u v p rs) → OutputsPass limit outs
     → Back limit u v p rs store outs
 
 -- it holds for every limit that is wide enough, and so for packets of up to 4,096 octets
 abbrev pub Runs-read-back-general : Type 0
-Runs-read-back-general = (limit : ℕ) → Sound source limit → Runs-read-backOver limit
+Runs-read-back-general = (limit : ℕ) → Roomy source limit → Runs-read-backOver limit
 
 abbrev pub Runs-read-back : Type 0
 Runs-read-back = Runs-read-backOver most
@@ -156,7 +157,7 @@ Runs-with-lossesOver limit = (u : SetUp) (v : ℕ) (p : Place) (rs : List Run) (
     ≡ wanted source (arrivedWhole limit (cameAfter u [] (framesOf u v p rs) es) (length (tailOf p)) (withFillers u v p rs)))
 
 abbrev pub Runs-with-losses-general : Type 0
-Runs-with-losses-general = (limit : ℕ) → Sound source limit → Runs-with-lossesOver limit
+Runs-with-losses-general = (limit : ℕ) → Roomy source limit → Runs-with-lossesOver limit
 
 abbrev pub Runs-with-losses : Type 0
 Runs-with-losses = Runs-with-lossesOver most

@@ -21,10 +21,10 @@ use Rattle.frame.specs.declared.header.Header.{Header}
 use Rattle.channel.specs.declared.state.Channel.{Channel}
 use Rattle.channel.specs.declared.state.State.{State}
 use Rattle.channel.specs.declared.state.State.the-variants.{Hunting, Gathering, Skipping}
-use Rattle.walk.specs.Walk.{walkOf, handed, handedAll, noTally, oneIdle, oneDelivered, tallied, talliedAll}
+use Rattle.walk.specs.Steps.{broke, disagreed, agrees, calledAt, hunted, gathered, skipped, resumed, carriesNone, gapFor, stepsOf, courseOf}
+use Rattle.walk.specs.Walk.{walkOf, handed, handedAll, noTally, oneIdle, oneDelivered, tallied, talliedAll, Done, only, endedBy, ended}
 use Rattle.walk.specs.declared.walking.End.{End}
 use Rattle.walk.specs.declared.walking.Tally.{Tally}
-use Rattle.walk.specs.Steps.{Done, only, endedBy, ended, broke, disagreed, agrees, calledAt, hunted, gathered, skipped, resumed, carriesNone, gapFor, stepsOf, courseOf}
 use Rattle.reader.specs.Reading.{channelOf, doneBy, reportOf, outputAfter}
 use Rattle.walk.proofs.WalkLaws.{walk-ind, walk-stop, walk-whole, seen-whole}
 use Rattle.reader.proofs.ReadLaws.{found-none, leaves}

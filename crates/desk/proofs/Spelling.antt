@@ -9,7 +9,7 @@ use lib.Dec.{ltb}
 use lib.ListN.{length, getD, drop, drop-of-length-le}
 use lib.Seq.{drop-cons}
 use Rattle.octets.specs.Pick.{pick}
-use Rattle.desk.specs.Numbers.{digitOf, digitsFrom, largest, numberOf}
+use Rattle.desk.specs.Numbers.{digitOf, digitsFrom, largest, decimalOf}
 use Rattle.desk.specs.declared.words.Number.the-variants.{Value, Bad}
 
 module _ (b : ℕ) where
@@ -25,13 +25,13 @@ module _ (b : ℕ) where
   unfolding digitOf
   digit-is h k = rw (le-ltb b 48 h, le-ltb 57 b k)
 
-pub no-word : (w : List ℕ) → length w ≡ 0 → Bad ≡ numberOf w
-unfolding numberOf
+pub no-word : (w : List ℕ) → length w ≡ 0 → Bad ≡ decimalOf w
+unfolding decimalOf
 no-word [] e = refl
 no-word (b ∷ w) e = absurd (omega arith)
 
-pub from-start : (w : List ℕ) → (length w ≡ 0 → ⊥) → digitsFrom 0 (drop 0 w) ≡ numberOf w
-unfolding numberOf
+pub from-start : (w : List ℕ) → (length w ≡ 0 → ⊥) → digitsFrom 0 (drop 0 w) ≡ decimalOf w
+unfolding decimalOf
 from-start [] h = absurd (h refl)
 from-start (b ∷ w) h = refl
 
@@ -41,16 +41,16 @@ one-digit : (w : List ℕ) (n i d : ℕ) → i < length w → d ≡ digitOf (get
 unfolding digitsFrom
 one-digit w n i d h e = rw (drop-cons w i 0 h, add-one, e)
 
-module _ (w : List ℕ) (n i d : ℕ) (h : i < length w) (e : d ≡ digitOf (getD w i 0)) (inv : digitsFrom n (drop i w) ≡ numberOf w) where
-  pub not-a-digit : 9 < d → Bad ≡ numberOf w
+module _ (w : List ℕ) (n i d : ℕ) (h : i < length w) (e : d ≡ digitOf (getD w i 0)) (inv : digitsFrom n (drop i w) ≡ decimalOf w) where
+  pub not-a-digit : 9 < d → Bad ≡ decimalOf w
   not-a-digit k = sym (one-digit w n i d h e ∙ rw (lt-ltb 9 d k)) ∙ inv
 
-  pub too-large : d ≤ 9 → largest < n * 10 + d → Bad ≡ numberOf w
+  pub too-large : d ≤ 9 → largest < n * 10 + d → Bad ≡ decimalOf w
   too-large k l = sym (one-digit w n i d h e ∙ rw (le-ltb 9 d k, lt-ltb largest (n * 10 + d) l)) ∙ inv
 
-  pub digit-more : d ≤ 9 → n * 10 + d ≤ largest → digitsFrom (n * 10 + d) (drop (i + 1) w) ≡ numberOf w
+  pub digit-more : d ≤ 9 → n * 10 + d ≤ largest → digitsFrom (n * 10 + d) (drop (i + 1) w) ≡ decimalOf w
   digit-more k l = sym (one-digit w n i d h e ∙ rw (le-ltb 9 d k, le-ltb largest (n * 10 + d) l)) ∙ inv
 
-pub no-more : (w : List ℕ) (n i : ℕ) → length w ≤ i → digitsFrom n (drop i w) ≡ numberOf w → Value n ≡ numberOf w
+pub no-more : (w : List ℕ) (n i : ℕ) → length w ≤ i → digitsFrom n (drop i w) ≡ decimalOf w → Value n ≡ decimalOf w
 unfolding digitsFrom
 no-more w n i h inv = sym (rw (drop-of-length-le w h)) ∙ inv

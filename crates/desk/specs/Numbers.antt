@@ -21,6 +21,6 @@ digitsFrom n (b ∷ w) =
     pick (ltb 9 (digitOf b)) Bad (pick (ltb largest (n * 10 + digitOf b)) Bad (digitsFrom (n * 10 + digitOf b) w))
 
 -- one digit at least
-unfoldable pub numberOf : List ℕ → Number
-numberOf [] = Bad
-numberOf (b ∷ w) = digitsFrom 0 (b ∷ w)
+unfoldable pub decimalOf : List ℕ → Number
+decimalOf [] = Bad
+decimalOf (b ∷ w) = digitsFrom 0 (b ∷ w)

@@ -1,6 +1,6 @@
 // A word of the command line as a number.
 ghost use mathlib.Core.Path.{_≡_};
-ghost use Rattle.desk.specs.Numbers.{digitOf, numberOf};
+ghost use Rattle.desk.specs.Numbers.{digitOf, decimalOf};
 
 // Numbers are at most this.
 const MOST: usize = 4294967295;
@@ -25,7 +25,7 @@ fn digit(b: u8) -> usize
 
 // A word of decimal digits, one at least.
 pub fn spelt(word: &[u8]) -> Number
-    ensures { λ r. ⌜ r ≡ numberOf (now (word .entry)) ⌝ }
+    ensures { λ r. ⌜ r ≡ decimalOf (now (word .entry)) ⌝ }
 {
     if word.len() == 0 {
         return Number::Bad;

@@ -1,10 +1,10 @@
--- A frame that closing makes around a data field passes every test of opening, and gives back what it was made of.
+-- A frame that closing makes around a data field passes every test of opening and gives back what it was made of, or is refused by test 12.
 -- Assumes nothing.
 use mathlib.Core.Path.{_≡_, refl, _∙_, sym, ap}
 use mathlib.Core.Bool.{Bool, true, false}
 use mathlib.Core.List.{List, [], _∷_, _++_, append-assoc}
 use mathlib.Core.Logic.{inl, inr}
-use Prim.Native.Nat.{ℕ, _+_, _*_, _/_, _%_, _^_, _≤_, _<_}
+use Prim.Native.Nat.{ℕ, _+_, _/_, _%_, _^_, _≤_, _<_}
 use native.Mathlib.Nat.{mod-eq-of-lt}
 use native.Mathlib.Omega.{arith}
 use borrow.Author.Tests.{eq-eqb}
@@ -13,42 +13,31 @@ use lib.ListN.{length, take, drop, length-append}
 use lib.Seq.{take-at, drop-at}
 use Rattle.crc.specs.Register.{syndromeOf}
 use Rattle.crc.proofs.Laws.{own-field, in-16-bits}
-use Rattle.octets.specs.Numbers.{numberAt, octetsOf}
+use Rattle.octets.specs.Layout.{valueIn, widthAmong}
+use Rattle.octets.specs.Numbers.{octetsOf}
 use Rattle.octets.specs.Pick.{pick}
+use Rattle.octets.proofs.Layouts.{reads-back}
 use Rattle.octets.proofs.Runs.{length-octets, number-back}
 use Rattle.frame.specs.declared.closing.ControlWord.{ControlWord}
 use Rattle.frame.specs.declared.closing.ControlWord.the-variants.{Absent, Present}
 use Rattle.frame.specs.declared.counts.ChannelCount.{ChannelCount}
 use Rattle.frame.specs.declared.counts.MasterCount.{MasterCount}
 use Rattle.frame.specs.declared.header.Header.{Header}
-use Rattle.frame.specs.declared.opening.Opened.the-variants.{Accepted}
+use Rattle.frame.specs.declared.opening.Opened.the-variants.{Refused, Accepted}
+use Rattle.frame.specs.declared.opening.Refusal.the-variants.{PointerPlace}
 use Rattle.frame.specs.declared.set_up.SetUp.{SetUp}
 use Rattle.frame.specs.Answers.{bit}
-use Rattle.frame.specs.Closing.{flaggedBy, wordOctets, headerOctets, closeSize, withCheck, frameAround}
-use Rattle.frame.specs.Header.{headerOf, versionOf}
-use Rattle.frame.specs.Opening.{secondarySize, dataSize, wordOf, row6, row7, row9, row11, row12, openOf}
+use Rattle.frame.specs.Closing.{flaggedBy, wordOctets, headerValue, headerOctets, closeSize, withCheck, frameAround}
+use Rattle.frame.specs.Header.{FrameItem, version, spacecraft, channel, controlWordFlag, masterCount, channelCount, secondaryHeaderFlag, synchronisationFlag, packetOrderFlag, segmentLengthId, firstHeaderPointer, frameHeader, headerOf}
+use Rattle.frame.specs.Inside.{openFrom}
+use Rattle.frame.specs.Opening.{secondarySize, wordOf, row6, row7, row9, row11, openOf}
 use Rattle.frame.specs.SetUp.{fitsOf}
 use Rattle.frame.specs.Theorems.{Points, wordNumber}
-use Rattle.frame.proofs.ClosingLaws.{bit-lt, header-three, length-header, word-length, sizes}
-use Rattle.frame.proofs.HeaderLaws.{header-is, version-is}
-use Rattle.frame.proofs.OpeningSteps.{checked, right-header, right-frame}
-use Rattle.frame.proofs.RowLaws.{row12-below, row12-idle, row12-other}
+use Rattle.frame.proofs.ClosingLaws.{bit-lt, length-header, word-length, sizes}
+use Rattle.frame.proofs.HeaderLaws.{header-fills, header-tells, header-has}
+use Rattle.frame.proofs.OpeningSteps.{checked, right-header, right-frame, wrong-pointer}
+use Rattle.frame.proofs.RowLaws.{row12-exactly}
 use Rattle.frame.proofs.SetUpLaws.{in-range}
-
--- a list that begins with three numbers of 16 bits
-abbrev Begins : List ℕ → ℕ → ℕ → ℕ → Type 0
-Begins f a o z = (numberAt f 0 2 ≡ a) × (numberAt f 2 2 ≡ o) × (numberAt f 4 2 ≡ z)
-
-three-back : (a o z : ℕ) (r : List ℕ) → a < 65536 → o < 65536 → z < 65536
-    → Begins (octetsOf 2 a ++ octetsOf 2 o ++ octetsOf 2 z ++ r) a o z
-three-back a o z r ha ho hz =
-    let x = octetsOf 2 a in
-    let y = octetsOf 2 o in
-    let v = octetsOf 2 z in (
-      ap (λ (l : List ℕ). numberAt l 0 2) (append-assoc (x ++ y) v r ∙ append-assoc x y (v ++ r)) ∙ number-back [] (y ++ (v ++ r)) 0 2 a refl ha,
-      ap (λ (l : List ℕ). numberAt l 2 2) (append-assoc (x ++ y) v r) ∙ number-back x (v ++ r) 2 2 o (length-octets 2 a) ho,
-      number-back (x ++ y) r 4 2 z (simp (length-append, length-octets)) hz,
-    )
 
 -- the values of a header that closing writes
 abbrev closedHeader : ℕ → ℕ → Bool → MasterCount → ChannelCount → ℕ → Header
@@ -70,31 +59,32 @@ bit-is : (b : Bool) → eqb (bit b) 1 ≡ b
 bit-is true = refl
 bit-is false = refl
 
--- they are read back from its three numbers, and the version is 00
-module _ (f : List ℕ) (s c p : ℕ) (b : Bool) (m : MasterCount) (k : ChannelCount)
-    (hs : s < 1024) (hc : c < 8) (hm : m .0 < 256) (hk : k .0 < 256) (hp : p < 2048)
-    (n : Begins f (s * 16 + c * 2 + bit b) (m .0 * 256 + k .0) (6144 + p)) where
-  header-back : closedHeader s c b m k p ≡ headerOf f
-  header-back =
-      let hb = bit-lt b in
-      let a = s * 16 + c * 2 + bit b in
-      let z = 6144 + p in
-      let e₁ : a / 16 % 1024 ≡ s = omega arith in
-      let e₂ : a / 2 % 8 ≡ c = omega arith in
-      let e₃ : a % 2 ≡ bit b = omega arith in
-      let e₄ : z / 2048 % 4 ≡ 3 = omega arith in
-      let e₅ : z % 2048 ≡ p = omega arith in
-      let e₆ : z / 32768 ≡ 0 = omega arith in
-      let e₇ : z / 16384 % 2 ≡ 0 = omega arith in
-      let e₈ : z / 8192 % 2 ≡ 0 = omega arith in
-      rw (e₁, e₂, e₃, e₄, e₅, e₆, e₇, e₈, bit-is b)
-      at (header-is f (omega arith) (omega arith) a z (m .0) (k .0) (sym (n .0)) (sym (n .2)) hm hk (n .1))
+-- they are read back from the header's octets, and the version is 00
+module _ (u : SetUp) (c : ℕ) (m : MasterCount) (k : ChannelCount) (b : Bool) (p : ℕ) (r : List ℕ) where
+  value-back : (n : FrameItem) → valueIn frameHeader (headerOctets u c m k b p ++ r) 0 n
+      ≡ headerValue u c m k b p n % 2 ^ widthAmong (frameHeader .told) (frameHeader .items) n
+  unfolding headerOctets
+  value-back n = reads-back frameHeader header-fills header-tells (headerValue u c m k b p) [] r n (header-has n)
 
-  version-back : row7 f ≡ false
-  unfolding row7
-  version-back =
-      let hb = bit-lt b in
-      rw (eq-eqb (versionOf f) 0 (omega (arith, version-is f (omega arith) (omega arith))))
+  header-back : u .spacecraft < 1024 → c < 8 → m .0 < 256 → k .0 < 256 → p < 2048
+      → headerOf (headerOctets u c m k b p ++ r) ≡ closedHeader (u .spacecraft) c b m k p
+  unfolding headerOf widthAmong
+  header-back hs hc hm hk hp = λ i. record {
+    spacecraft = (value-back spacecraft ∙ mod-eq-of-lt hs) i;
+    channel = (value-back channel ∙ mod-eq-of-lt hc) i;
+    flagged = (ap (λ (x : ℕ). eqb x 1) (value-back controlWordFlag ∙ mod-eq-of-lt (bit-lt b)) ∙ bit-is b) i;
+    master = record { 0 = (value-back masterCount ∙ mod-eq-of-lt hm) i };
+    count = record { 0 = (value-back channelCount ∙ mod-eq-of-lt hk) i };
+    secondary = ap (λ (x : ℕ). eqb x 1) (value-back secondaryHeaderFlag) i;
+    synchronisation = ap (λ (x : ℕ). eqb x 1) (value-back synchronisationFlag) i;
+    order = ap (λ (x : ℕ). eqb x 1) (value-back packetOrderFlag) i;
+    segment = value-back segmentLengthId i;
+    pointer = (value-back firstHeaderPointer ∙ mod-eq-of-lt hp) i;
+  }
+
+  version-back : row7 (headerOctets u c m k b p ++ r) ≡ false
+  unfolding row7 widthAmong
+  version-back = rw (value-back version)
 
 -- a run with its check behind it passes row 6
 check-passes : (u : SetUp) (f : List ℕ) (b : Bool) → u .«error_control» ≡ b → row6 u (withCheck u f) ≡ false
@@ -119,16 +109,11 @@ unfolding wordOf wordOctets flaggedBy
 word-back Absent h f r end e b l = rw e
 word-back (Present v) h f r end e b l = rw e (sym (number-back f r end 4 v l b))
 
--- a pointer that a frame may carry has 11 bits, and passes row 12
-pointer-lt : (p D : ℕ) → D ≤ 2042 → Points p D → p < 2048
+-- a pointer that a frame may carry has 11 bits
+pub pointer-lt : (p D : ℕ) → D ≤ 2042 → Points p D → p < 2048
 pointer-lt p D l (inl a) = omega arith
 pointer-lt p D l (inr (inl a)) = omega arith
 pointer-lt p D l (inr (inr a)) = omega arith
-
-pointer-passes : (h : Header) (D : ℕ) → h .synchronisation ≡ false → D ≤ 2042 → Points (h .pointer) D → row12 h D ≡ false
-pointer-passes h D s l (inl a) = sym (row12-below h D s a)
-pointer-passes h D s l (inr (inl a)) = sym (row12-idle h D s (omega arith) a)
-pointer-passes h D s l (inr (inr a)) = sym (row12-other h D s (omega arith) (λ b. omega arith)) ∙ rw (eq-eqb (h .pointer) 2047 a)
 
 module _ (u : SetUp) (channel : ℕ) (m : MasterCount) (k : ChannelCount) (w : ControlWord) (p : ℕ) (field : List ℕ)
     (hf : length field ≡ closeSize u w) where
@@ -153,44 +138,58 @@ module _ (u : SetUp) (channel : ℕ) (m : MasterCount) (k : ChannelCount) (w : C
       ∙ ap (take (closeSize u w)) (drop-at (headerOctets u channel m k (flaggedBy w) p) (field ++ x .0) 6 (length-header u channel m k (flaggedBy w) p))
       ∙ take-at field (x .0) (closeSize u w) hf
 
-  module _ (fits : fitsOf u ≡ true) (hc : channel < 8) (hm : m .0 < 256) (hk : k .0 < 256) (hw : wordNumber w < 2 ^ 32)
-      (hp : Points p (closeSize u w)) where
-    begins : p < 2048
-        → Begins (frameAround u channel m k w p field) (u .spacecraft * 16 + channel * 2 + bit (flaggedBy w)) (m .0 * 256 + k .0) (6144 + p)
-    begins lp =
+  module _ (fits : fitsOf u ≡ true) (hc : channel < 8) (hm : m .0 < 256) (hk : k .0 < 256) (lp : p < 2048) where
+    -- its header's values, and how far it passes
+    around-header : closedHeader (u .spacecraft) channel (flaggedBy w) m k p ≡ headerOf (frameAround u channel m k w p field)
+    around-header =
+        let t = behind-header in
         let n = in-range u .0 fits in
-        let hb = bit-lt (flaggedBy w) in
-        let x = behind-header in
-        rw (x .1, header-three u channel m k (flaggedBy w) p (omega arith) hc hm hk, mod-eq-of-lt lp)
-        (three-back (u .spacecraft * 16 + channel * 2 + bit (flaggedBy w)) (m .0 * 256 + k .0) (6144 + p) (field ++ x .0) (omega arith) (omega arith) (omega arith))
+        rw (t .1) (sym (header-back u channel m k (flaggedBy w) p (field ++ t .0) (omega arith) hc hm hk lp))
 
-    pub around-opens :
-        openOf u (frameAround u channel m k w p field)
+    around-six : openFrom 6 u (frameAround u channel m k w p field) ≡ openOf u (frameAround u channel m k w p field)
+    unfolding row9 frameAround
+    around-six =
+        let f = frameAround u channel m k w p field in
+        let h = headerOctets u channel m k (flaggedBy w) p in
+        let x = parts in
+        let t = behind-header in
+        let s = sizes u w fits in
+        let lh = length-header u channel m k (flaggedBy w) p in
+        let lw = word-length w in
+        let whole : length f ≡ u .length = ap length (x .1) ∙ simp length-append (omega arith) in
+        let ev : row7 f ≡ false = rw (t .1) (version-back u channel m k (flaggedBy w) p (field ++ t .0)) in
+        right-header u f (closedHeader (u .spacecraft) channel (flaggedBy w) m k p) around-header ev refl refl
+        ∙ checked u f fits whole (check-passes u (h ++ field ++ wordOctets w) (u .«error_control») refl)
+
+    -- a pointer that test 12 lets pass, and one that it does not
+    pub around-opens : wordNumber w < 2 ^ 32 → Points p (closeSize u w)
+        → openOf u (frameAround u channel m k w p field)
         ≡ Accepted (record {
           header = closedHeader (u .spacecraft) channel (flaggedBy w) m k p;
           word = wordNumber w;
           place = 6;
           size = closeSize u w;
         })
-    unfolding row9 row11 secondarySize dataSize closeSize frameAround
-    around-opens =
+    unfolding row11 secondarySize closeSize
+    around-opens hw hp =
         let f = frameAround u channel m k w p field in
         let h = headerOctets u channel m k (flaggedBy w) p in
         let D = closeSize u w in
         let g = closedHeader (u .spacecraft) channel (flaggedBy w) m k p in
         let x = parts in
         let s = sizes u w fits in
-        let n = in-range u .0 fits in
         let lh = length-header u channel m k (flaggedBy w) p in
-        let lw = word-length w in
-        let small : D ≤ 2042 = omega arith in
-        let lp = pointer-lt p D small hp in
-        let whole : length f ≡ u .length = ap length (x .1) ∙ simp length-append (omega arith) in
-        let eg = header-back f (u .spacecraft) channel p (flaggedBy w) m k (omega arith) hc hm hk lp (begins lp) in
-        let ev = version-back f (u .spacecraft) channel p (flaggedBy w) m k (omega arith) hc hm hk lp (begins lp) in
-        let eD : D ≡ dataSize u g 0 = omega arith in
         let ew : wordNumber w ≡ wordOf g f (6 + D) = rw (x .1) (word-back w g (h ++ field) (x .0) (6 + D) refl hw (simp length-append (omega arith))) in
         sym (
-        right-frame u f g 0 D eg refl eD (s .least) refl (pointer-passes g D refl small hp) (wordNumber w) ew
-        ∙ right-header u f g eg ev refl refl
-        ∙ checked u f fits whole (check-passes u (h ++ field ++ wordOctets w) (u .«error_control») refl))
+        right-frame u f g 0 D around-header refl refl (s .least) refl (row12-exactly g D .1 .1 (λ s. hp)) (wordNumber w) ew
+        ∙ around-six)
+
+    pub around-refused : (Points p (closeSize u w) → ⊥) → openOf u (frameAround u channel m k w p field) ≡ Refused PointerPlace
+    unfolding row11 secondarySize closeSize
+    around-refused hp =
+        let D = closeSize u w in
+        let g = closedHeader (u .spacecraft) channel (flaggedBy w) m k p in
+        let s = sizes u w fits in
+        sym (
+        wrong-pointer u (frameAround u channel m k w p field) g 0 D around-header refl refl (s .least) refl (row12-exactly g D .0 .1 (refl, hp))
+        ∙ around-six)

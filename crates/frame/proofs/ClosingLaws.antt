@@ -1,58 +1,72 @@
 -- What closing writes: the header as three numbers of 16 bits, the check behind a run, and the frame around a data field.
 -- Assumes nothing.
-use mathlib.Core.Path.{_≡_, refl, _∙_, sym, ap}
+use mathlib.Core.Path.{_≡_, refl, _∙_, sym, ap, ap₂}
 use mathlib.Core.Bool.{Bool, true, false}
 use mathlib.Core.List.{List, [], _∷_, _++_}
 use Prim.Native.Nat.{ℕ, _+_, _-_, _*_, _%_, _≤_, _<_}
-use native.Mathlib.Nat.{mod-eq-of-lt}
+use native.Mathlib.Nat.{mod-eq-of-lt, mod-mod}
 use native.Mathlib.Omega.{arith}
 use lib.ListN.{length, take, drop, length-append, length-drop}
 use lib.Seq.{take-at}
 use Rattle.crc.specs.Register.{syndromeOf}
 use Rattle.octets.specs.Laid.{laid}
-use Rattle.octets.specs.Numbers.{octetsOf, part, packed}
+use Rattle.octets.specs.Layout.{numbered, laidOut}
+use Rattle.octets.specs.Numbers.{octetsOf}
+use Rattle.octets.specs.Octets.{Octets}
 use Rattle.octets.specs.Pick.{pick}
 use Rattle.octets.proofs.Laws.{pick-le}
-use Rattle.octets.proofs.Runs.{laid-behind, laid-around, laid-last, length-octets, octets-append}
+use Rattle.octets.proofs.Layouts.{laid-out-octets, laid-out-length}
+use Rattle.octets.proofs.OctetLaws.{no-octets, octets-append as octets-both}
+use Rattle.octets.proofs.Runs.{laid-behind, laid-around, laid-last, length-octets, octets-append, octets-lt}
 use Rattle.frame.specs.declared.closing.ControlWord.{ControlWord}
 use Rattle.frame.specs.declared.closing.ControlWord.the-variants.{Absent, Present}
 use Rattle.frame.specs.declared.counts.ChannelCount.{ChannelCount}
 use Rattle.frame.specs.declared.counts.MasterCount.{MasterCount}
 use Rattle.frame.specs.declared.set_up.SetUp.{SetUp}
 use Rattle.frame.specs.Answers.{bit}
-use Rattle.frame.specs.Closing.{flaggedBy, wordOctets, headerOctets, closeSize, fieldIn, withCheck, checkedOutput, frameAround}
+use Rattle.frame.specs.Closing.{flaggedBy, wordOctets, headerValue, headerOctets, closeSize, fieldIn, withCheck, frameAround}
+use Rattle.frame.specs.Header.{frameHeader}
+use Rattle.frame.specs.Inside.{checkedOutput}
+use Rattle.frame.specs.Opening.{dataSize}
 use Rattle.frame.specs.SetUp.{fitsOf}
-use Rattle.frame.specs.Theorems.{Sizes}
+use Rattle.frame.specs.Theorems.{Around-octets, Sizes}
+use Rattle.frame.proofs.HeaderLaws.{header-six}
 use Rattle.frame.proofs.SetUpLaws.{in-range}
 
 pub bit-lt : (b : Bool) → bit b < 2
 bit-lt true = omega arith
 bit-lt false = omega arith
 
--- the fields packed are three numbers of 16 bits
-packed-three : (s c f m k p : ℕ) → s < 1024 → c < 8 → f < 2 → m < 256 → k < 256
-    → packed 0
-    (part 2 0 ∷ part 10 s ∷ part 3 c ∷ part 1 f ∷ part 8 m ∷ part 8 k ∷ part 1 0 ∷ part 1 0 ∷ part 1 0 ∷ part 2 3 ∷ part 11 p ∷ [])
-    ≡ ((s * 16 + c * 2 + f) * 65536 + (m * 256 + k)) * 65536 + (6144 + p % 2048)
-unfolding packed
-packed-three s c f m k p hs hc hf hm hk = rw (mod-eq-of-lt hs, mod-eq-of-lt hc, mod-eq-of-lt hf, mod-eq-of-lt hm, mod-eq-of-lt hk) (omega arith)
+-- the items numbered are three numbers of 16 bits
+numbered-three : (u : SetUp) (c : ℕ) (m : MasterCount) (k : ChannelCount) (b : Bool) (p : ℕ)
+    → u .spacecraft < 1024 → c < 8 → m .0 < 256 → k .0 < 256
+    → numbered 0 (frameHeader .items) (headerValue u c m k b p)
+    ≡ ((u .spacecraft * 16 + c * 2 + bit b) * 65536 + (m .0 * 256 + k .0)) * 65536 + (6144 + p % 2048)
+unfolding numbered
+numbered-three u c m k b p hs hc hm hk =
+    rw (mod-eq-of-lt hs, mod-eq-of-lt hc, mod-eq-of-lt (bit-lt b), mod-eq-of-lt hm, mod-eq-of-lt hk) (omega arith)
 
 module _ (u : SetUp) (channel : ℕ) (m : MasterCount) (k : ChannelCount) (b : Bool) (p : ℕ) where
   pub header-three : u .spacecraft < 1024 → channel < 8 → m .0 < 256 → k .0 < 256
       → headerOctets u channel m k b p
       ≡ octetsOf 2 (u .spacecraft * 16 + channel * 2 + bit b) ++ octetsOf 2 (m .0 * 256 + k .0) ++ octetsOf 2 (6144 + p % 2048)
-  unfolding headerOctets
+  unfolding headerOctets laidOut
   header-three hs hc hm hk =
       let a = u .spacecraft * 16 + channel * 2 + bit b in
       let o = m .0 * 256 + k .0 in
       let z = 6144 + p % 2048 in
-      ap (octetsOf 6) (packed-three (u .spacecraft) channel (bit b) (m .0) (k .0) p hs hc (bit-lt b) hm hk)
+      ap₂ octetsOf header-six (numbered-three u channel m k b p hs hc hm hk)
       ∙ sym (octets-append 4 2 (a * 65536 + o) z (omega arith))
       ∙ ap (λ (l : List ℕ). l ++ octetsOf 2 z) (sym (octets-append 2 2 a o (omega arith)))
 
+  -- of the pointer the low 11 bits are written
+  pub header-low : headerOctets u channel m k b p ≡ headerOctets u channel m k b (p % 2048)
+  unfolding headerOctets laidOut numbered
+  header-low = rw (mod-mod p 2048)
+
   pub length-header : length (headerOctets u channel m k b p) ≡ 6
   unfolding headerOctets
-  length-header = length-octets 6 _
+  length-header = laid-out-length frameHeader (headerValue u channel m k b p) ∙ header-six
 
 -- three numbers written one behind the other from the start
 pub three-laid : (d d₁ d₂ d₃ : List ℕ) (a o z : ℕ) → 6 ≤ length d → d₁ ≡ laid d 0 (octetsOf 2 a) → d₂ ≡ laid d₁ 2 (octetsOf 2 o)
@@ -88,9 +102,28 @@ unfolding wordOctets flaggedBy
 word-length Absent = refl
 word-length (Present v) = length-octets 4 v
 
+-- a frame around octets has octets
+word-octets : (w : ControlWord) → Octets (wordOctets w)
+unfolding wordOctets
+word-octets Absent = no-octets
+word-octets (Present v) = octets-lt 4 v
+
+check-octets : (b : Bool) (n : ℕ) → Octets (pick b (octetsOf 2 n) [])
+check-octets true n = octets-lt 2 n
+check-octets false n = no-octets
+
+pub around-octets : Around-octets
+unfolding frameAround withCheck headerOctets
+around-octets u channel m k w p field o =
+    let h = headerOctets u channel m k (flaggedBy w) p in
+    let f = h ++ field ++ wordOctets w in
+    octets-both f _
+    (octets-both (h ++ field) (wordOctets w) (octets-both h field (laid-out-octets frameHeader (headerValue u channel m k (flaggedBy w) p)) o) (word-octets w))
+    (check-octets (u .«error_control») (syndromeOf f))
+
 -- the parts of a frame fill it
 pub sizes : Sizes
-unfolding closeSize
+unfolding closeSize dataSize
 sizes u w e =
     let r = in-range u .0 e in
     let l = word-length w in

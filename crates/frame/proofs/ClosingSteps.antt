@@ -6,7 +6,7 @@ use mathlib.Core.List.{List}
 use mathlib.Core.Logic.{inl, inr}
 use Prim.Native.Nat.{ℕ, _≤_, _<_}
 use lib.ListN.{length}
-use borrow.Author.Tests.{eq-eqb, ne-eqb, lt-ltb, le-ltb, not-false, ltb-true, eqb-true}
+use borrow.Author.Tests.{eq-eqb, ne-eqb, lt-ltb, le-ltb, not-false, not-true, ltb-true, ltb-false, eqb-true, eqb-false}
 use Rattle.frame.specs.declared.closing.Closed.the-variants.{Refused, Written}
 use Rattle.frame.specs.declared.closing.CloseRefusal.{CloseRefusal}
 use Rattle.frame.specs.declared.closing.CloseRefusal.the-variants.{SetUpRange, ChannelAbove, OutputLength}
@@ -17,8 +17,24 @@ use Rattle.frame.specs.declared.set_up.SetUp.{SetUp}
 use Rattle.frame.specs.Closing.{row20, row25, closeTable, closeOf, outputOf, frameAround, fieldIn}
 use Rattle.frame.specs.Opening.{row1}
 use Rattle.frame.specs.SetUp.{fitsOf}
-use Rattle.frame.specs.Table.{First, None}
-use Rattle.frame.proofs.TableLaws.{first-gives, none-gives}
+use Rattle.frame.specs.Theorems.{Row20-exactly, Row25-exactly}
+use Rattle.table.specs.Table.{First, None}
+use Rattle.table.proofs.Laws.{first-gives, none-gives}
+
+-- rows 20 and 25
+pub row20-exactly : Row20-exactly
+unfolding row20
+row20-exactly channel = (
+  (λ h. ltb-false channel 8 (not-true _ h), λ h. rw (le-ltb channel 8 h)),
+  (λ h. ltb-true channel 8 (not-false _ h), λ h. rw (lt-ltb channel 8 h)),
+)
+
+pub row25-exactly : Row25-exactly
+unfolding row25
+row25-exactly u out = (
+  (λ h. eqb-false (length out) (u .length) (not-true _ h), λ h. rw (ne-eqb (length out) (u .length) h)),
+  (λ h. eqb-true (length out) (u .length) (not-false _ h), λ h. rw (eq-eqb (length out) (u .length) h)),
+)
 
 -- the first cause
 module _ (u : SetUp) (channel : ℕ) (out : List ℕ) where

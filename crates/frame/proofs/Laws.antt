@@ -1,16 +1,22 @@
 -- The theorems of specs/Theorems.antt.
 -- Assumes nothing.
-use mathlib.Core.Path.{_≡_, refl, sym, ap, subst}
-use mathlib.Core.List.{List}
-use Prim.Native.Nat.{ℕ}
+use mathlib.Core.Path.{_≡_, refl, _∙_, sym, ap, ap₂, subst}
+use mathlib.Core.Bool.{Bool, true, false}
+use mathlib.Core.List.{List, _++_}
+use Prim.Native.Nat.{ℕ, _+_, _%_, _≤_}
 use native.Mathlib.Numerals.{add-one}
 use native.Mathlib.Omega.{arith}
 use borrow.Author.Tests.{not-false, ltb-false, eqb-true}
-use lib.ListN.{length, getD, length-take, length-drop}
-use Rattle.octets.proofs.Fields.{bits-lt}
+use lib.ListN.{length, getD, take, drop, length-take, length-drop}
+use Rattle.octets.specs.Layout.{widthAmong}
+use Rattle.octets.specs.Octets.{Octets}
+use Rattle.octets.specs.Pick.{pick}
 use Rattle.octets.proofs.Laws.{zeros-all}
+use Rattle.octets.proofs.Layouts.{value-lt}
 use Rattle.frame.specs.declared.closing.Closed.the-variants.{Refused as CloseRefused, Written}
 use Rattle.frame.specs.declared.closing.CloseRefusal.{CloseRefusal}
+use Rattle.frame.specs.declared.closing.ControlWord.{ControlWord}
+use Rattle.frame.specs.declared.closing.ControlWord.the-variants.{Absent, Present}
 use Rattle.frame.specs.declared.opening.Frame.{Frame}
 use Rattle.frame.specs.declared.opening.Opened.{Opened}
 use Rattle.frame.specs.declared.opening.Opened.the-variants.{Refused, Accepted}
@@ -18,27 +24,33 @@ use Rattle.frame.specs.declared.opening.Refusal.{Refusal}
 use Rattle.frame.specs.declared.opening.Refusal.the-variants.{SetUpRange}
 use Rattle.frame.specs.declared.set_up.SetUp.{SetUp}
 use Rattle.frame.specs.Answers.{numberOf, valuesOf, closeNumberOf, closeValueOf}
-use Rattle.frame.specs.Closing.{closeTable, closeOf, closeSize, fieldIn}
+use Rattle.frame.specs.Closing.{flaggedBy, wordOctets, closeTable, closeOf, closeSize, fieldIn, withCheck, frameAround, outputOf}
 use Rattle.frame.specs.Counts.{gapOf}
-use Rattle.frame.specs.Header.{headerOf, versionOf}
-use Rattle.frame.specs.Opening.{row1, row5, row7, row8, row10, secondarySize, dataSize, frameOf, frameTable, openTable, openFrom}
-use Rattle.frame.specs.Table.{None}
-use Rattle.frame.specs.Theorems.{Number-exactly, Accepted-exactly, Frame-refused, Frame-accepted, Values-fourteen, Refused-zero, FourteenValues, Accepted-values, Sound, Opened-sound, Close-exactly, Close-written, Close-untouched, Close-passes, Close-around, Closed-opens, Gap-exactly}
-use Rattle.frame.proofs.ClosedOpens.{around-opens, around-field}
-use Rattle.frame.proofs.ClosingLaws.{sizes}
+use Rattle.frame.specs.Header.{FrameItem, frameHeader, headerOf, versionOf}
+use Rattle.frame.specs.Opening.{row1, row5, row7, row8, row10, secondarySize, dataSize, frameOf, frameTable, openTable, openOf}
+use Rattle.frame.specs.SetUp.{fitsOf}
+use Rattle.table.specs.Table.{None, firstCause}
+use Rattle.frame.specs.Theorems.{Number-exactly, Accepted-exactly, Frame-refused, Frame-accepted, Values-fourteen, Refused-zero, FourteenValues, Accepted-values, Sound, Opened-sound, Close-exactly, Close-written, Close-untouched, Close-passes, Close-around, Closed-opens, Closed-low, Closed-refused, ownWord, Opened-closes, Gap-exactly}
+use Rattle.frame.proofs.ClosedOpens.{pointer-lt, around-opens, around-refused, around-field}
+use Rattle.frame.proofs.ClosingLaws.{header-low, sizes}
 use Rattle.frame.proofs.ClosingSteps.{passed, passing, refused, written}
 use Rattle.frame.proofs.NumberLaws.{number-one, number-some, close-number-one, close-number-some}
+use Rattle.frame.proofs.OpenedCloses.{header-again, word-again, check-again, parts-again}
 use Rattle.frame.proofs.OpeningSteps.{filled}
 use Rattle.frame.proofs.RowLaws.{row6-zero, row9-zero, row11-whole, row12-points}
 use Rattle.frame.proofs.SetUpLaws.{in-range}
-use Rattle.frame.proofs.TableLaws.{next, none-gives, first-exactly, none-exactly, made}
+pub use Rattle.frame.proofs.ClosingLaws.{around-octets}
+pub use Rattle.frame.proofs.ClosingSteps.{row20-exactly, row25-exactly}
+pub use Rattle.frame.proofs.RowLaws.{row12-exactly}
+pub use Rattle.frame.proofs.SetUpLaws.{row1-exactly, row1-fits}
+use Rattle.table.proofs.Laws.{next, none-gives, first-exactly, none-exactly, made}
 
 -- opening
 abbrev first-value : Opened → ℕ
 first-value o = getD (valuesOf o) 0 0
 
 pub number-exactly : Number-exactly
-unfolding openFrom valuesOf
+unfolding openOf valuesOf
 number-exactly u f r =
     rw (made first-value Refused (Accepted (frameOf u f)) (openTable u f))
     (first-exactly numberOf 0 number-one (λ r e. omega (arith, number-some r)) (openTable u f) r)
@@ -48,14 +60,14 @@ not-both : (x : Frame) (r : Refusal) → Accepted x ≡ Refused r → ⊥
 not-both x r q = let z : _≡_ {A = ℕ} 0 1 = cc in omega arith
 
 pub accepted-exactly : Accepted-exactly
-unfolding openFrom
+unfolding openOf
 accepted-exactly u f x =
     let e = none-exactly Refused (Accepted (frameOf u f)) (Accepted x) (λ r q. not-both x r (sym q)) (openTable u f) in
     (λ o. let h = e .0 o in (cc (h .0), h .1), λ h. e .1 (ap Accepted (sym (h .0)), h .1))
 
 -- row 1 decides nothing where the set-up fits
 pub frame-refused : Frame-refused
-unfolding openFrom openTable row1
+unfolding openOf openTable row1
 frame-refused u f r a =
     rw (next Refused (Accepted (frameOf u f)) SetUpRange (frameTable u f) {b = row1 u} (rw a))
     (first-exactly Refused (Accepted (frameOf u f)) (λ s r q. cc) (not-both (frameOf u f)) (frameTable u f) r)
@@ -122,21 +134,21 @@ close-untouched u channel m k w p out r e =
 
 -- what passes all rows
 sound : (u : SetUp) (f : List ℕ) → None (openTable u f) → Sound u f (frameOf u f)
-unfolding openTable frameTable frameOf headerOf row1 row5 row7 row8 row10
+unfolding openTable frameTable frameOf headerOf widthAmong row1 row5 row7 row8 row10
 sound u f n =
     let h = headerOf f in
     let s = secondarySize h f in
-    let D = dataSize u h s in
+    let D = dataSize u s (h .flagged) in
     let fits = not-false _ (n .0) in
     let whole = eqb-true (length f) (u .length) (not-false _ (n .1 .0)) in
     let t = n .1 .1 in
     let v = t .1 .1 .1 .1 in
     let least = ltb-false D 1 (v .0) in
-    let full = filled u h s D refl least in
+    let full = filled u s D (h .flagged) refl least in
     let range = in-range u .0 fits in
     record {
       fits = fits;
-      whole = whole;
+      octets = whole;
       undamaged = row6-zero u f (t .0);
       version = eqb-true (versionOf f) 0 (not-false _ (t .1 .0));
       spacecraft = eqb-true (h .spacecraft) (u .spacecraft) (not-false _ (t .1 .1 .0));
@@ -148,11 +160,11 @@ sound u f n =
       order = λ a. row11-whole h (v .1 .0) a .0;
       segment = λ a. row11-whole h (v .1 .0) a .1;
       pointer = row12-points h D (v .1 .1 .0);
-      channel = bits-lt f 0 6 12 3;
-      master-bits = bits-lt f 0 6 16 8;
-      count-bits = bits-lt f 0 6 24 8;
-      segment-bits = bits-lt f 0 6 35 2;
-      pointer-bits = bits-lt f 0 6 37 11;
+      channel = value-lt frameHeader f 0 FrameItem.channel;
+      master-bits = value-lt frameHeader f 0 FrameItem.masterCount;
+      count-bits = value-lt frameHeader f 0 FrameItem.channelCount;
+      segment-bits = value-lt frameHeader f 0 FrameItem.segmentLengthId;
+      pointer-bits = value-lt frameHeader f 0 FrameItem.firstHeaderPointer;
     }
 
 pub opened-sound : Opened-sound
@@ -175,15 +187,72 @@ close-passes u channel out = (
 pub close-around : Close-around
 close-around u channel m k w p out e = sym (written u channel m k w p out (none-found u channel out e) .1)
 
-pub closed-opens : Closed-opens
+-- the data field has D octets
+field-size : (u : SetUp) (w : ControlWord) (out : List ℕ) → fitsOf u ≡ true → length out ≡ u .length → length (fieldIn u w out) ≡ closeSize u w
 unfolding fieldIn
+field-size u w out fits whole = let s = sizes u w fits in simp (length-take, length-drop) (omega arith)
+
+pub closed-opens : Closed-opens
 closed-opens u channel m k w p out e hm hk hw hp =
     let t = close-passes u channel out .0 e in
     let s = sizes u w (t .0) in
     let field = fieldIn u w out in
-    let lf : length field ≡ closeSize u w = simp (length-take, length-drop) (omega arith) in
-    rw (close-around u channel m k w p out e)
-    (around-opens u channel m k w p field lf (t .0) (t .1) hm hk hw hp, around-field u channel m k w p field lf)
+    let lf = field-size u w out (t .0) (t .2) in
+    rw (close-around u channel m k w p out e) (
+      around-opens u channel m k w p field lf (t .0) (t .1) hm hk (pointer-lt p (closeSize u w) (s .most) hp) hw hp,
+      around-field u channel m k w p field lf,
+    )
+
+pub closed-low : Closed-low
+unfolding outputOf frameAround
+closed-low u channel m k w p out =
+    ap (λ (h : List ℕ). firstCause (closeTable u channel out) (λ _. out) (withCheck u (h ++ fieldIn u w out ++ wordOctets w)))
+    (header-low u channel m k (flaggedBy w) p)
+
+pub closed-refused : Closed-refused
+closed-refused u channel m k w p out e hm hk hp =
+    let t = close-passes u channel out .0 e in
+    let lf = field-size u w out (t .0) (t .2) in
+    let q : ℕ = p % 2048 in
+    rw (closed-low u channel m k w p out, close-around u channel m k w q out e)
+    (around-refused u channel m k w q (fieldIn u w out) lf (t .0) (t .1) hm hk (omega arith) hp)
+
+-- the frame around what an opened frame gave
+own-flagged : (b : Bool) (w : ℕ) → flaggedBy (pick b (Present w) Absent) ≡ b
+unfolding flaggedBy
+own-flagged true w = refl
+own-flagged false w = refl
+
+around-again : (u : SetUp) (f : List ℕ) → Octets f → Sound u f (frameOf u f) → headerOf f .secondary ≡ false → headerOf f .synchronisation ≡ false
+    → frameAround u (headerOf f .channel) (headerOf f .master) (headerOf f .count) (ownWord (frameOf u f)) (headerOf f .pointer)
+    (fieldIn u (ownWord (frameOf u f)) f)
+    ≡ f
+unfolding frameAround fieldIn frameOf closeSize
+around-again u f o s plain packets =
+    let h = headerOf f in
+    let b = h .flagged in
+    let D = dataSize u 0 b in
+    let n : ℕ = pick b 4 0 in
+    let es : secondarySize h f ≡ 0 = unfold secondarySize in (rw plain) in
+    let least : 1 ≤ D = rw es at (s .least) in
+    let full = filled u 0 D b refl least in
+    let header = header-again u f (s .version) (s .spacecraft) plain packets (s .order packets) (s .segment packets) o (omega arith) in
+    let word = word-again h f (6 + D) b refl o (omega (arith, s .octets)) in
+    rw (es, own-flagged)
+    (ap (withCheck u) (ap₂ (λ (x y : List ℕ). x ++ take D (drop 6 f) ++ y) header word ∙ parts-again f D n)
+    ∙ check-again u f (6 + D + n) (u .«error_control») refl o (omega (arith, s .octets)) (s .undamaged))
+
+pub opened-closes : Opened-closes
+unfolding frameOf
+opened-closes u f x o e plain packets =
+    let a = accepted-exactly u f x .0 e in
+    let s = sound u f (a .1) in
+    let w = close-passes u (headerOf f .channel) f .1 (s .fits, s .channel, s .octets) in
+    rw (a .0) (
+      w,
+      close-around u (headerOf f .channel) (headerOf f .master) (headerOf f .count) (ownWord (frameOf u f)) (headerOf f .pointer) f w
+          ∙ around-again u f o s (rw (a .0) at plain) (rw (a .0) at packets),
+    )
 
 pub gap-exactly : Gap-exactly
 unfolding gapOf

@@ -4,7 +4,7 @@ pub mod ClosingSteps
 pub mod HeaderLaws
 pub mod Laws
 pub mod NumberLaws
+pub mod OpenedCloses
 pub mod OpeningSteps
 pub mod RowLaws
 pub mod SetUpLaws
-pub mod TableLaws

@@ -1,7 +1,7 @@
 -- The table of refusals walked in the order of the code: what each test decides.
 -- Assumes nothing.
 use mathlib.Core.Path.{_≡_}
-use mathlib.Core.Bool.{true, false}
+use mathlib.Core.Bool.{Bool, true, false}
 use mathlib.Core.List.{List, [], _∷_}
 use Prim.Native.Nat.{ℕ, _+_, _≤_, _<_}
 use native.Mathlib.Omega.{arith}
@@ -13,27 +13,28 @@ use Rattle.frame.specs.declared.opening.Opened.the-variants.{Refused, Ac
 use Rattle.frame.specs.declared.opening.Refusal.the-variants.{SetUpRange, FrameLength, FrameCheck, FrameVersion, OtherSpacecraft, SecondaryHeader, NoData, OrderOrSegment, PointerPlace}
 use Rattle.frame.specs.declared.set_up.SetUp.{SetUp}
 use Rattle.frame.specs.Header.{headerOf}
-use Rattle.frame.specs.Opening.{row1, row5, row6, row7, row8, row9, row10, row11, row12, secondarySize, dataSize, dataPlace, wordOf, frameOf, frameTable, openTable, openFrom}
+use Rattle.frame.specs.Inside.{openFrom}
+use Rattle.frame.specs.Opening.{row1, row5, row6, row7, row8, row9, row10, row11, row12, secondarySize, dataSize, dataPlace, wordOf, frameOf, frameTable, openTable, openOf}
 use Rattle.frame.specs.SetUp.{fitsOf}
-use Rattle.frame.specs.Table.{row, firstCause}
+use Rattle.table.specs.Table.{row, firstCause}
 
 -- row 1
-pub outside : (u : SetUp) (f : List ℕ) → fitsOf u ≡ false → Refused SetUpRange ≡ openFrom 0 u f
-unfolding openFrom openTable firstCause row1
+pub outside : (u : SetUp) (f : List ℕ) → fitsOf u ≡ false → Refused SetUpRange ≡ openOf u f
+unfolding openOf openTable firstCause row1
 outside u f a = rw a
 
 -- rows 5 and 6, of a set-up that fits
 module _ (u : SetUp) (f : List ℕ) (a : fitsOf u ≡ true) where
-  pub wrong-length : (length f ≡ u .length → ⊥) → Refused FrameLength ≡ openFrom 0 u f
-  unfolding openFrom openTable frameTable firstCause row1 row5
+  pub wrong-length : (length f ≡ u .length → ⊥) → Refused FrameLength ≡ openOf u f
+  unfolding openOf openTable frameTable firstCause row1 row5
   wrong-length b = rw (a, ne-eqb (length f) (u .length) b)
 
-  pub failed-check : length f ≡ u .length → row6 u f ≡ true → Refused FrameCheck ≡ openFrom 0 u f
-  unfolding openFrom openTable frameTable firstCause row1 row5
+  pub failed-check : length f ≡ u .length → row6 u f ≡ true → Refused FrameCheck ≡ openOf u f
+  unfolding openOf openTable frameTable firstCause row1 row5
   failed-check b c = rw (a, eq-eqb (length f) (u .length) b, c)
 
-  pub checked : length f ≡ u .length → row6 u f ≡ false → openFrom 3 u f ≡ openFrom 0 u f
-  unfolding openFrom openTable frameTable firstCause row1 row5
+  pub checked : length f ≡ u .length → row6 u f ≡ false → openFrom 3 u f ≡ openOf u f
+  unfolding openOf openFrom openTable frameTable firstCause row1 row5
   checked b c = rw (a, eq-eqb (length f) (u .length) b, c)
 
 -- rows 7 to 9
@@ -55,7 +56,7 @@ module _ (u : SetUp) (f : List ℕ) (h : Header) (e : h ≡ headerOf f) (a : row
   right-header b c = rw (a, ← e, eq-eqb (h .spacecraft) (u .spacecraft) b, c)
 
 -- rows 10 to 12
-module _ (u : SetUp) (f : List ℕ) (h : Header) (s D : ℕ) (e : h ≡ headerOf f) (es : s ≡ secondarySize h f) (eD : D ≡ dataSize u h s) where
+module _ (u : SetUp) (f : List ℕ) (h : Header) (s D : ℕ) (e : h ≡ headerOf f) (es : s ≡ secondarySize h f) (eD : D ≡ dataSize u s (h .flagged)) where
   from-six : openFrom 6 u f ≡ firstCause (row NoData (row10 D) ∷ row OrderOrSegment (row11 h) ∷ row PointerPlace (row12 h D) ∷ [])
       Refused (Accepted (record { header = h; word = wordOf h f (dataPlace s + D); place = dataPlace s; size = D }))
   unfolding openFrom openTable frameTable frameOf
@@ -80,7 +81,7 @@ module _ (u : SetUp) (f : List ℕ) (h : Header) (s D : ℕ) (e : h ≡ headerOf
     right-frame b c w ew = rw (from-six, le-ltb D 1 a, b, c, ew)
 
 -- a data field of at least one octet, with all that stands beside it, fills the frame
-pub filled : (u : SetUp) (h : Header) (s D : ℕ) → D ≡ dataSize u h s → 1 ≤ D
-    → dataPlace s + D + pick (h .flagged) 4 0 + pick (u .«error_control») 2 0 ≡ u .length
+pub filled : (u : SetUp) (s D : ℕ) (flagged : Bool) → D ≡ dataSize u s flagged → 1 ≤ D
+    → dataPlace s + D + pick flagged 4 0 + pick (u .«error_control») 2 0 ≡ u .length
 unfolding dataSize
-filled u h s D e a = omega arith
+filled u s D flagged e a = omega arith

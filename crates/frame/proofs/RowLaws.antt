@@ -1,17 +1,18 @@
 -- What decides row 12, and what rows 6, 9, 11 and 12 say where they pass.
 -- Assumes nothing.
-use mathlib.Core.Path.{_≡_, refl}
+use mathlib.Core.Path.{_≡_, refl, sym}
 use mathlib.Core.Bool.{Bool, true, false, not, _&&_, _||_}
 use mathlib.Core.List.{List}
-use mathlib.Core.Logic.{_⊎_, inl, inr}
+use mathlib.Core.Logic.{_⊎_, _↔_, inl, inr}
 use Prim.Native.Nat.{ℕ, _≤_, _<_}
+use native.Mathlib.Omega.{arith}
 use lib.Dec.{eqb, ltb}
 use borrow.Author.Tests.{lt-ltb, le-ltb, eq-eqb, ne-eqb, eqb-true, ltb-true, not-false}
 use Rattle.crc.specs.Register.{syndromeOf}
 use Rattle.frame.specs.declared.header.Header.{Header}
 use Rattle.frame.specs.declared.set_up.SetUp.{SetUp}
 use Rattle.frame.specs.Opening.{row6, row9, row11, row12, secondaryVersion, idleData, noneStarts}
-use Rattle.frame.specs.Theorems.{Points}
+use Rattle.frame.specs.Theorems.{Points, Row12-exactly}
 
 module _ (h : Header) (D : ℕ) (s : h .synchronisation ≡ false) where
   -- a pointer below D passes
@@ -56,17 +57,44 @@ or-either : (a b : Bool) → a || b ≡ true → (a ≡ true) ⊎ (b ≡ true)
 or-either true b e = inl refl
 or-either false b e = inr e
 
+or-second : (a : Bool) {b : Bool} → b ≡ true → a || b ≡ true
+or-second true e = refl
+or-second false e = e
+
+false-true : false ≡ true → ⊥
+false-true e = let z : _≡_ {A = ℕ} 0 1 = cc in omega arith
+
 points : (p D : ℕ) → ltb p D || (eqb p idleData || eqb p noneStarts) ≡ true → Points p D
 points p D e = below (or-either (ltb p D) (eqb p idleData || eqb p noneStarts) e)
   where
-    named : (eqb p idleData ≡ true) ⊎ (eqb p noneStarts ≡ true) → Points p D
-    named (inl h) = inr (inl (eqb-true p idleData h))
-    named (inr h) = inr (inr (eqb-true p noneStarts h))
+    one : (eqb p idleData ≡ true) ⊎ (eqb p noneStarts ≡ true) → Points p D
+    one (inl h) = inr (inl (eqb-true p idleData h))
+    one (inr h) = inr (inr (eqb-true p noneStarts h))
 
     below : (ltb p D ≡ true) ⊎ (eqb p idleData || eqb p noneStarts ≡ true) → Points p D
     below (inl h) = inl (ltb-true p D h)
-    below (inr h) = named (or-either (eqb p idleData) (eqb p noneStarts) h)
+    below (inr h) = one (or-either (eqb p idleData) (eqb p noneStarts) h)
+
+named : (p D : ℕ) → Points p D → ltb p D || (eqb p idleData || eqb p noneStarts) ≡ true
+named p D (inl h) = rw (lt-ltb p D h)
+named p D (inr (inl h)) = or-second (ltb p D) (rw (eq-eqb p idleData h))
+named p D (inr (inr h)) = or-second (ltb p D) (or-second (eqb p idleData) (eq-eqb p noneStarts h))
+
+-- a row of two tests that must both fail
+both-fail : (a b : Bool)
+    → (not a && not b ≡ true ↔ ((a ≡ false) × (b ≡ true → ⊥))) × (not a && not b ≡ false ↔ (a ≡ false → b ≡ true))
+both-fail true b = ((λ h. absurd (false-true h), λ h. absurd (false-true (sym (h .0)))), (λ h a. absurd (false-true (sym a)), λ h. refl))
+both-fail false true = ((λ h. absurd (false-true h), λ h. absurd (h .1 refl)), (λ h a. refl, λ h. refl))
+both-fail false false = ((λ h. (refl, false-true), λ h. refl), (λ h. absurd (false-true (sym h)), λ h. absurd (false-true (h refl))))
+
+pub row12-exactly : Row12-exactly
+unfolding row12
+row12-exactly h D =
+    let p = h .pointer in
+    let t = both-fail (h .synchronisation) (ltb p D || (eqb p idleData || eqb p noneStarts)) in (
+      (λ e. let x = t .0 .0 e in (x .0, λ y. x .1 (named p D y)), λ x. t .0 .1 (x .0, λ y. x .1 (points p D y))),
+      (λ e s. points p D (t .1 .0 e s), λ x. t .1 .1 (λ s. named p D (x s))),
+    )
 
 pub row12-points : (h : Header) (D : ℕ) → row12 h D ≡ false → h .synchronisation ≡ false → Points (h .pointer) D
-unfolding row12
-row12-points h D e s = points (h .pointer) D (not-false _ (rw s at e))
+row12-points h D e s = row12-exactly h D .1 .0 e s

@@ -1,11 +1,12 @@
 -- Closing a frame: the frame around a data field that lies in its place (01, "Writing one frame"; "Layouts").
 use mathlib.Core.Bool.{Bool, true, false, not}
 use mathlib.Core.List.{List, [], _∷_, _++_}
-use Prim.Native.Nat.{ℕ, _-_}
+use Prim.Native.Nat.{ℕ}
 use lib.Dec.{eqb, ltb}
 use lib.ListN.{length, take, drop}
 use Rattle.crc.specs.Register.{syndromeOf}
-use Rattle.octets.specs.Numbers.{octetsOf, part, packed}
+use Rattle.octets.specs.Layout.{laidOut}
+use Rattle.octets.specs.Numbers.{octetsOf}
 use Rattle.octets.specs.Pick.{pick}
 use Rattle.frame.specs.declared.closing.Closed.{Closed}
 use Rattle.frame.specs.declared.closing.Closed.the-variants.{Refused, Written}
@@ -17,12 +18,9 @@ use Rattle.frame.specs.declared.counts.ChannelCount.{ChannelCount}
 use Rattle.frame.specs.declared.counts.MasterCount.{MasterCount}
 use Rattle.frame.specs.declared.set_up.SetUp.{SetUp}
 use Rattle.frame.specs.Answers.{bit}
-use Rattle.frame.specs.Opening.{row1}
-use Rattle.frame.specs.Table.{Row, row, firstCause}
-
--- "There are eight virtual channels, 0 to 7."
-abbrev pub channels : ℕ
-channels = 8
+use Rattle.frame.specs.Header.{channels, FrameItem, frameHeader}
+use Rattle.frame.specs.Opening.{row1, dataSize}
+use Rattle.table.specs.Table.{Row, row, firstCause}
 
 -- row 20: channel above 7
 unfoldable pub row20 : ℕ → Bool
@@ -45,24 +43,31 @@ unfoldable pub wordOctets : ControlWord → List ℕ
 wordOctets Absent = []
 wordOctets (Present w) = octetsOf 4 w
 
--- the header's fields in the order of "Layouts"; "No secondary header; synchronisation and order flags 0, segment id 11"
+-- the value of each item of the header: "No secondary header; synchronisation and order flags 0, segment id 11"
+abbrev pub headerValue : SetUp → ℕ → MasterCount → ChannelCount → Bool → ℕ → FrameItem → ℕ
+headerValue u channel master count flagged pointer FrameItem.version = 0
+headerValue u channel master count flagged pointer FrameItem.spacecraft = u .spacecraft
+headerValue u channel master count flagged pointer FrameItem.channel = channel
+headerValue u channel master count flagged pointer FrameItem.controlWordFlag = bit flagged
+headerValue u channel master count flagged pointer FrameItem.masterCount = master .0
+headerValue u channel master count flagged pointer FrameItem.channelCount = count .0
+headerValue u channel master count flagged pointer FrameItem.secondaryHeaderFlag = 0
+headerValue u channel master count flagged pointer FrameItem.synchronisationFlag = 0
+headerValue u channel master count flagged pointer FrameItem.packetOrderFlag = 0
+headerValue u channel master count flagged pointer FrameItem.segmentLengthId = 3
+headerValue u channel master count flagged pointer FrameItem.firstHeaderPointer = pointer
+
+-- the header's octets. Of a value an item holds its low bits: of a pointer, whatever it is, the low 11.
 unfoldable pub headerOctets : SetUp → ℕ → MasterCount → ChannelCount → Bool → ℕ → List ℕ
-headerOctets u channel master count flagged pointer =
-    octetsOf 6 (packed 0
-    (part 2 0 ∷ part 10 (u .spacecraft) ∷ part 3 channel ∷ part 1 (bit flagged) ∷ part 8 (master .0) ∷ part 8 (count .0)
-    ∷ part 1 0 ∷ part 1 0 ∷ part 1 0 ∷ part 2 3 ∷ part 11 pointer ∷ []))
+headerOctets u channel master count flagged pointer = laidOut frameHeader (headerValue u channel master count flagged pointer)
 
 -- D, of a frame with no secondary header
 unfoldable pub closeSize : SetUp → ControlWord → ℕ
-closeSize u word = u .length - 6 - length (wordOctets word) - pick (u .«error_control») 2 0
+closeSize u word = dataSize u 0 (flaggedBy word)
 
 -- error control, if set up: "over all octets before the field"
 unfoldable pub withCheck : SetUp → List ℕ → List ℕ
 withCheck u f = f ++ pick (u .«error_control») (octetsOf 2 (syndromeOf f)) []
-
--- the output with the check in its place, over all octets before it, if it is set up
-unfoldable pub checkedOutput : SetUp → List ℕ → List ℕ
-checkedOutput u out = pick (u .«error_control») (withCheck u (take (length out - 2) out)) out
 
 -- the whole frame: header, data field, control word, check
 unfoldable pub frameAround : SetUp → ℕ → MasterCount → ChannelCount → ControlWord → ℕ → List ℕ → List ℕ

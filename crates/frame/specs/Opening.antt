@@ -3,9 +3,10 @@ use mathlib.Core.Bool.{Bool, not, _&&_, _||_}
 use mathlib.Core.List.{List, [], _∷_}
 use Prim.Native.Nat.{ℕ, _+_, _-_}
 use lib.Dec.{eqb, ltb}
-use lib.ListN.{length, drop}
+use lib.ListN.{length}
 use Rattle.crc.specs.Register.{syndromeOf}
-use Rattle.octets.specs.Numbers.{numberAt, bitsAt}
+use Rattle.octets.specs.Layout.{valueIn}
+use Rattle.octets.specs.Numbers.{numberAt}
 use Rattle.octets.specs.Pick.{pick}
 use Rattle.frame.specs.declared.header.Header.{Header}
 use Rattle.frame.specs.declared.opening.Frame.{Frame}
@@ -14,20 +15,20 @@ use Rattle.frame.specs.declared.opening.Opened.the-variants.{Refused, Ac
 use Rattle.frame.specs.declared.opening.Refusal.{Refusal}
 use Rattle.frame.specs.declared.opening.Refusal.the-variants.{SetUpRange, FrameLength, FrameCheck, FrameVersion, OtherSpacecraft, SecondaryHeader, NoData, OrderOrSegment, PointerPlace}
 use Rattle.frame.specs.declared.set_up.SetUp.{SetUp}
-use Rattle.frame.specs.Header.{headerOf, versionOf}
+use Rattle.frame.specs.Header.{headerOf, versionOf, secondaryHeader, secondaryVersionBits, lengthLessOne}
 use Rattle.frame.specs.SetUp.{fitsOf}
-use Rattle.frame.specs.Table.{Row, row, firstCause}
+use Rattle.table.specs.Table.{Row, row, firstCause}
 
 -- "octet 6 holds version 2 bits (00) and 6 bits of length less one, so s = 1 to 64 octets; otherwise s = 0"
 abbrev pub secondaryVersion : List ℕ → ℕ
-secondaryVersion f = bitsAt f 6 1 0 2
+secondaryVersion f = valueIn secondaryHeader f 6 secondaryVersionBits
 
 unfoldable pub secondarySize : Header → List ℕ → ℕ
-secondarySize h f = pick (h .secondary) (bitsAt f 6 1 2 6 + 1) 0
+secondarySize h f = pick (h .secondary) (valueIn secondaryHeader f 6 lengthLessOne + 1) 0
 
 -- "D = N - 6 - s - (4 if flagged) - (2 if set up)", and 0 where that would be below 1
-unfoldable pub dataSize : SetUp → Header → ℕ → ℕ
-dataSize u h s = u .length - 6 - s - pick (h .flagged) 4 0 - pick (u .«error_control») 2 0
+unfoldable pub dataSize : SetUp → ℕ → Bool → ℕ
+dataSize u s flagged = u .length - 6 - s - pick flagged 4 0 - pick (u .«error_control») 2 0
 
 -- the data field follows the header and the secondary header
 abbrev pub dataPlace : ℕ → ℕ
@@ -86,14 +87,14 @@ unfoldable pub frameOf : SetUp → List ℕ → Frame
 frameOf u f =
     let h : Header = headerOf f in
     let s : ℕ = secondarySize h f in
-    let D : ℕ = dataSize u h s in
+    let D : ℕ = dataSize u s (h .flagged) in
     record { header = h; word = wordOf h f (dataPlace s + D); place = dataPlace s; size = D }
 
 -- rows 5 to 12, in the paper's order: what the frame itself is tested for
 unfoldable pub frameTable : SetUp → List ℕ → List (Row Refusal)
 frameTable u f =
     let h : Header = headerOf f in
-    let D : ℕ = dataSize u h (secondarySize h f) in
+    let D : ℕ = dataSize u (secondarySize h f) (h .flagged) in
     row FrameLength (row5 u f) ∷ row FrameCheck (row6 u f) ∷ row FrameVersion (row7 f) ∷ row OtherSpacecraft (row8 u h)
     ∷ row SecondaryHeader (row9 h f) ∷ row NoData (row10 D) ∷ row OrderOrSegment (row11 h) ∷ row PointerPlace (row12 h D) ∷ []
 
@@ -101,10 +102,6 @@ frameTable u f =
 unfoldable pub openTable : SetUp → List ℕ → List (Row Refusal)
 openTable u f = row SetUpRange (row1 u) ∷ frameTable u f
 
--- the answer once the first k rows have passed: the first cause found of the others, else what the frame gives
-unfoldable pub openFrom : ℕ → SetUp → List ℕ → Opened
-openFrom k u f = firstCause (drop k (openTable u f)) Refused (Accepted (frameOf u f))
-
--- opening a frame
-abbrev pub openOf : SetUp → List ℕ → Opened
-openOf u f = openFrom 0 u f
+-- opening a frame: "the first cause found gives the number", else what the frame gives
+unfoldable pub openOf : SetUp → List ℕ → Opened
+openOf u f = firstCause (openTable u f) Refused (Accepted (frameOf u f))

@@ -1,20 +1,17 @@
 use crate::counts::ChannelCount;
 use crate::counts::MasterCount;
 use crate::header::Header;
-use crate::opening::CHECK;
-use crate::opening::WORD;
+use crate::opening::data_size;
 use crate::opening::if_present;
 use crate::set_up::SetUp;
 ghost use mathlib.Core.Path.{_≡_};
 ghost use mathlib.Core.Bool.{true};
 ghost use Prim.Native.Nat.{_+_, _-_, _≤_, _<_};
-ghost use lib.ListN.{length, take};
-ghost use Rattle.crc.specs.Register.{syndromeOf};
+ghost use lib.ListN.{length};
 ghost use Rattle.octets.specs.Laid.{laid};
-ghost use Rattle.octets.specs.Numbers.{octetsOf};
-ghost use Rattle.octets.specs.Pick.{pick};
 ghost use Rattle.frame.specs.Answers.{bit, closeNumberOf};
-ghost use Rattle.frame.specs.Closing.{flaggedBy, wordOctets, headerOctets, checkedOutput, closeOf, closeSize, outputOf};
+ghost use Rattle.frame.specs.Closing.{flaggedBy, wordOctets, headerOctets, closeOf, closeSize, outputOf};
+ghost use Rattle.frame.specs.Inside.{checkedOutput};
 ghost use Rattle.frame.specs.SetUp.{fitsOf};
 
 // A control word for the frame, or none.
@@ -24,6 +21,8 @@ pub enum ControlWord {
 }
 
 impl ControlWord {
+    pub const OCTETS: usize = 4;
+
     fn flagged(self) -> bool
         ensures { λ r. ⌜ r ≡ flaggedBy self ⌝ }
     {
@@ -39,7 +38,7 @@ impl ControlWord {
     {
         match self {
             ControlWord::Absent => 0,
-            ControlWord::Present(_) => WORD,
+            ControlWord::Present(_) => ControlWord::OCTETS,
         }
     }
 
@@ -102,7 +101,11 @@ fn write_header(
     let spacecraft = set.spacecraft as usize;
     octets::put16(output, 0, spacecraft * 16 + channel * 2 + bit_of(flagged));
     octets::put16(output, 2, master.0 as usize * 256 + count.0 as usize);
-    octets::put16(output, 4, Header::WHOLE as usize * 2048 + pointer % 2048);
+    octets::put16(
+        output,
+        4,
+        Header::SEGMENT_ID as usize * 2048 + pointer % 2048,
+    );
 }
 
 // The check over all octets before it, if it is set up.
@@ -111,7 +114,7 @@ fn write_check(set: SetUp, output: &mut [u8])
     ensures { λ _. ⌜ now (output .exit) ≡ checkedOutput set (now (output .entry)) ⌝ }
 {
     if set.error_control {
-        let at = output.len() - CHECK;
+        let at = output.len() - SetUp::CHECK;
         let field = crc::syndrome(&output[..at]);
         octets::put16(output, at, field as usize);
     }
@@ -121,15 +124,11 @@ fn write_check(set: SetUp, output: &mut [u8])
 pub fn data_size_for(set: SetUp, word: ControlWord) -> usize
     ensures { λ r. ⌜ r ≡ closeSize set word ⌝ }
 {
-    let taken = Header::SIZE + word.size() + if_present(set.error_control, CHECK);
-    if taken < set.length {
-        set.length - taken
-    } else {
-        0
-    }
+    data_size(set, 0, word.flagged())
 }
 
-// Writes the frame around the data field, which lies in its place in the output already.
+// Writes the frame around the data field, which lies in its place in the output already. Of a pointer above 2047 it writes the low 11 bits:
+// 1, 20 and 25 are its only causes, in that order.
 pub fn close(
     set: SetUp,
     channel: usize,
@@ -152,7 +151,7 @@ pub fn close(
         return Closed::Refused(CloseRefusal::OutputLength);
     }
     write_header(set, channel, master, count, word.flagged(), pointer, output);
-    let taken = word.size() + if_present(set.error_control, CHECK);
+    let taken = word.size() + if_present(set.error_control, SetUp::CHECK);
     word.write(output, set.length - taken);
     write_check(set, output);
     Closed::Written

@@ -1,20 +1,17 @@
+use crate::closing::ControlWord;
 use crate::header::Header;
+use crate::header::header_of;
 use crate::set_up::SetUp;
 ghost use mathlib.Core.Path.{_≡_};
 ghost use mathlib.Core.Bool.{true};
 ghost use Prim.Native.Nat.{_+_, _≤_, _<_};
 ghost use lib.ListN.{length};
-ghost use Rattle.octets.specs.Numbers.{numberAt};
 ghost use Rattle.octets.specs.Pick.{pick};
 ghost use Rattle.frame.specs.Answers.{numberOf};
 ghost use Rattle.frame.specs.Header.{headerOf};
-ghost use Rattle.frame.specs.Opening.{secondarySize, dataSize, wordOf, row6, row7, row9, row11, row12, openOf, openFrom};
+ghost use Rattle.frame.specs.Inside.{openFrom};
+ghost use Rattle.frame.specs.Opening.{secondarySize, dataSize, wordOf, row6, row7, row9, row11, row12, openOf};
 ghost use Rattle.frame.specs.SetUp.{fitsOf};
-
-// Octets of the control word, if flagged, and of the error control field, if set up.
-pub const WORD: usize = 4;
-
-pub const CHECK: usize = 2;
 
 // Why a frame is not opened.
 pub enum Refusal {
@@ -111,14 +108,14 @@ pub fn if_present(present: bool, size: usize) -> usize
 }
 
 // D, and 0 where nothing is left for the data field.
-fn data_size(set: SetUp, h: Header, s: usize) -> usize
+pub fn data_size(set: SetUp, s: usize, flagged: bool) -> usize
     requires { ⌜ s ≤ 64 ⌝ }
-    ensures { λ r. ⌜ r ≡ dataSize set h s ⌝ }
+    ensures { λ r. ⌜ r ≡ dataSize set s flagged ⌝ }
 {
     let taken = Header::SIZE
         + s
-        + if_present(h.flagged, WORD)
-        + if_present(set.error_control, CHECK);
+        + if_present(flagged, ControlWord::OCTETS)
+        + if_present(set.error_control, SetUp::CHECK);
     if taken < set.length {
         set.length - taken
     } else {
@@ -133,7 +130,7 @@ fn bad_order(h: Header) -> bool
     if h.synchronisation {
         return false;
     }
-    h.order || h.segment != Header::WHOLE
+    h.order || h.segment != Header::SEGMENT_ID
 }
 
 // Test 12.
@@ -169,7 +166,7 @@ fn open_data(set: SetUp, h: Header, frame: &[u8]) -> Opened
     ensures { λ r. ⌜ r ≡ openFrom 6 set (now (frame .entry)) ⌝ }
 {
     let s = secondary_size(h, frame);
-    let size = data_size(set, h, s);
+    let size = data_size(set, s, h.flagged);
     if size < 1 {
         return Opened::Refused(Refusal::NoData);
     }
@@ -197,7 +194,7 @@ fn open_header(set: SetUp, frame: &[u8]) -> Opened
     if other_version(frame) {
         return Opened::Refused(Refusal::FrameVersion);
     }
-    let h = Header::of(frame);
+    let h = header_of(frame);
     if h.spacecraft != set.spacecraft {
         return Opened::Refused(Refusal::OtherSpacecraft);
     }

@@ -15,6 +15,8 @@ impl SetUp {
     pub const MAX: usize = 2048;
 
     pub const SPACECRAFT_MAX: u32 = 1023;
+    // Octets of the error control field, if it is set up.
+    pub const CHECK: usize = 2;
 
     pub fn fits(self) -> bool
         ensures { λ r. ⌜ r ≡ fitsOf self ⌝ }

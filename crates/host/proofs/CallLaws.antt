@@ -9,7 +9,7 @@ use Rattle.channel.specs.Busy.{countOf, lowestOf, maskOf}
 use Rattle.channel.specs.declared.state.Record.{Record}
 use Rattle.reader.specs.Answers.{valuesOf}
 use Rattle.reader.specs.Reading.{Read}
-use Rattle.packet.specs.Family.{Octets}
+use Rattle.octets.specs.Octets.{Octets}
 use Rattle.reader.specs.declared.reading.Answer.{Answer}
 use Rattle.writer.specs.Answers.{answerNumber, valuesOf as writeValues}
 use Rattle.writer.specs.Writing.{Wrote}

@@ -5,23 +5,23 @@ use mathlib.Core.Bool.{Bool, true, false, not, false≢true}
 use mathlib.Core.List.{List, _++_}
 use Prim.Native.Nat.{ℕ, _-_, _^_, _≤_, _<_}
 use native.Mathlib.Omega.{arith}
-use borrow.Author.Tests.{ltb-true, leb-true, eqb-true}
-use lib.Dec.{eqb, leb, ltb}
+use borrow.Author.Tests.{leb-true, eqb-true}
+use lib.Dec.{eqb, leb}
 use lib.ListN.{length, getD, take, drop, replicate}
 use Rattle.octets.specs.Pick.{pick}
 use Rattle.packet.specs.Size.{most, sizeOf, source}
 use Rattle.packet.proofs.Laws.{source-lawful}
-use Rattle.walk.proofs.SourceLaws.{source-sound}
+use Rattle.walk.proofs.SourceLaws.{source-roomy}
 use Rattle.frame.specs.Opening.{frameOf, noneStarts}
 use Rattle.frame.proofs.Laws.{opened-sound}
-use Rattle.frame.proofs.TableLaws.{none-gives}
+use Rattle.table.proofs.Laws.{none-gives}
 use Rattle.frame.specs.declared.closing.ControlWord.{ControlWord}
 use Rattle.frame.specs.declared.header.Header.{Header}
 use Rattle.frame.specs.declared.set_up.SetUp.{SetUp}
 use Rattle.channel.proofs.Laws.{each-follows}
-use Rattle.channel.proofs.RuleLaws.{both}
+use Rattle.channel.proofs.RuleLaws.{both, gathers-told}
 use Rattle.channel.specs.Busy.{busyState}
-use Rattle.channel.specs.Rules.{allFollow, channelFollows, hunts, judged, recordFollows, stateFollows}
+use Rattle.channel.specs.Rules.{allFollow, channelFollows, hunts, recordFollows, stateFollows}
 use Rattle.channel.specs.State.{freshChannel}
 use Rattle.channel.specs.Store.{partOf}
 use Rattle.channel.specs.declared.state.Channel.{Channel}
@@ -31,9 +31,9 @@ use Rattle.channel.specs.declared.state.State.the-variants.{Hunting, Gathering,
 use Rattle.reader.proofs.Laws.{accepted-keeps, few-enough}
 use Rattle.reader.proofs.ReadLaws.{found-none, leaves, opened, ready}
 use Rattle.reader.specs.Reading.{answerOf, channelOf, doneBy, fieldOf, recordOf, reportOf, storeOf}
-use Rattle.walk.specs.Steps.{Done, agrees, broke, calledAt, carriesNone, disagreed, ended, endedBy, gapFor, gathered, hunted, only, resumed, skipped, stepsOf}
-use Rattle.packet.specs.Family.{Octets}
-use Rattle.walk.specs.Walk.{Walked, walkOf}
+use Rattle.walk.specs.Steps.{agrees, broke, calledAt, carriesNone, disagreed, gapFor, gathered, hunted, resumed, skipped, stepsOf}
+use Rattle.walk.specs.Walk.{Done, ended, endedBy, only, Walked, walkOf}
+use Rattle.octets.specs.Octets.{Octets}
 use Rattle.reader.specs.declared.reading.Answer.{Answer}
 use Rattle.reader.specs.declared.reading.Answer.the-variants.{Refused, Accepted}
 use Rattle.reader.specs.declared.reading.Report.{Report}
@@ -50,7 +50,7 @@ use Rattle.host.specs.Words.{NumbersFit, brokenChannel, channelAt, eachC
 state-small : (limit : ℕ) (part : List ℕ) (s : State) → limit ≤ 4096 → stateFollows source limit part s ≡ true → numberWord s ≤ 65536
 unfolding stateFollows
 state-small limit part Hunting h e = omega arith
-state-small limit part (Gathering k) h e = omega (arith, ltb-true k limit (both (ltb k limit) (judged limit k (sizeOf (take k part))) e .0))
+state-small limit part (Gathering k) h e = omega (arith, gathers-told source limit part k e .0)
 state-small limit part (Skipping r) h e = leb-true r 65536 (both (leb 1 r) (leb r 65536) e .1)
 
 hunts-small : (s : State) → hunts s ≡ true → numberWord s ≤ 65536
@@ -194,7 +194,7 @@ answer-lays u words store out f os of = go (answerOf u (unpacked words) store ou
     go : (a : Answer) → answerOf u (unpacked words) store out f ≡ a → Lays a (recordOf u (unpacked words) store out f) words
     go (Refused r) e = tt
     go (Accepted a) e =
-        let k = accepted-keeps source most source-sound u (unpacked words) store out f a os of (eight-channels words) e in
+        let k = accepted-keeps source most source-roomy u (unpacked words) store out f a os of (eight-channels words) e in
         (report-fits u (unpacked words) store out f a e, numbers-fit (storeOf u (unpacked words) store out f) (recordOf u (unpacked words) store out f) (k .eight) (k .follows), whole-words words store (followed u (unpacked words) store out f a e))
 
 -- where the next writing goes on fits words if this one's place did

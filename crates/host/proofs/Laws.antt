@@ -13,8 +13,8 @@ use lib.Seq.{getD-drop, getD-take, getD-set-same, getD-set-other, take-all}
 use Rattle.octets.specs.Pick.{pick}
 use Rattle.octets.proofs.Laws.{in-second-run, pick-le}
 use Rattle.packet.specs.Size.{most, source}
-use Rattle.walk.proofs.SourceLaws.{source-sound}
-use Rattle.frame.proofs.Laws.{opened-sound}
+use Rattle.walk.proofs.SourceLaws.{source-roomy}
+use Rattle.frame.proofs.Laws.{opened-sound, values-fourteen}
 use Rattle.frame.proofs.NumberLaws.{number-some}
 use Rattle.frame.specs.Opening.{frameOf, row1}
 use Rattle.frame.specs.SetUp.{fitsOf}
@@ -45,9 +45,11 @@ use Rattle.host.specs.Answer.{laidWords, readNumber}
 use Rattle.host.specs.Theorems.{Odd, OddChannel, Unpacks-packed, Packs-words, Fresh-words, Own-words, Odd-refused, Saved-follows, Saved-unpacks, Others-keep, Read-refused, Write-refused, Answer-sizes, Number-first, Laid-each}
 use Rattle.host.specs.Words.{brokenChannel, channelAt, eachChannel, numberWord, packedAll, packedChannel, stateWord, unpacked, unpackedChannel, unpackedState}
 use Rattle.host.proofs.FitLaws.{eight-channels, followed, whole-words}
+use Rattle.host.proofs.FrameLaws.{open-first}
 use Rattle.host.proofs.OwnLaws.{back, channel-follows, channel-own, drop-packed, each-at, own, unpacked-is, words-at}
 use Rattle.host.proofs.WordLaws.{length-packed}
 pub use Rattle.host.proofs.BusyLaws.{busy-exactly, busy-packed}
+pub use Rattle.host.proofs.FrameLaws.{open-returns, open-accepted, open-refused, close-returns, close-refused, close-opens}
 
 pub unpacks-packed : Unpacks-packed
 unpacks-packed rec s = back rec (s .eight) (s .counts)
@@ -159,7 +161,7 @@ module _ (u : SetUp) (rec : Record) (store out f : List ℕ) (a : Report) (e : r
   left-eight : length (rec .channels) ≡ 8 → length (recordOf u rec store out f .channels) ≡ 8
   left-eight n =
       rw (← left-as)
-      (channels-kept source (source-sound .laws) most (source-sound .wide) rec (frameOf u f) f store out (ready source most u rec store out f (frameOf u f) (refl, found-none source most u rec store out f a e)) ∙ n)
+      (channels-kept source (source-roomy .laws) most (source-roomy .wide) rec (frameOf u f) f store out (ready source most u rec store out f (frameOf u f) (refl, found-none source most u rec store out f a e)) ∙ n)
 
   frame-count : frameOf u f .header .count .0 < 256
   frame-count = opened-sound u f (frameOf u f) (opened source most u rec store out f (found-none source most u rec store out f a e)) .count-bits
@@ -195,7 +197,7 @@ saved-follows u words store out f answer r words′ store′ out′ answer′ os
     go (Refused x) e = absurd (refused-not x (sym (rw e at (c .number)) ∙ z))
     go (Accepted a) e =
         rw (saved-unpacks u words store out f answer r words′ store′ out′ answer′ c, c .store-left)
-        (accepted-keeps source most source-sound u (unpacked words) store out f a os of (eight-channels words) e .follows)
+        (accepted-keeps source most source-roomy u (unpacked words) store out f a os of (eight-channels words) e .follows)
 
 pub others-keep : Others-keep
 others-keep u words store out f answer r words′ store′ out′ answer′ a w c e h n =
@@ -205,7 +207,7 @@ others-keep u words store out f answer r words′ store′ out′ answer′ a w 
     let k : w < length (after .channels) = omega (arith, left-eight u rec store out f a e (eight-channels words)) in
     ap (λ (l : List ℕ). take 4 (drop (4 * w) l)) (rw e at (c .record-left))
     ∙ ap (take 4) (drop-packed (after .channels) w k)
-    ∙ ap packedChannel (others-apart source most source-sound u rec store out f a w e h n .channel-kept
+    ∙ ap packedChannel (others-apart source most source-roomy u rec store out f a w e h n .channel-kept
     ∙ ap (λ (l : List Channel). getD l w freshChannel) (unpacked-is words (whole-words words store follows))
     ∙ each-at (channelAt words) w h)
     ∙ words-at words store follows w h
@@ -236,7 +238,7 @@ read-size (Accepted a) = refl
 
 pub answer-sizes : Answer-sizes
 unfolding writeValues
-answer-sizes = (read-size, λ a p. refl, λ cs. refl)
+answer-sizes = (read-size, λ a p. refl, λ cs. refl, values-fourteen)
 
 read-first : (a : ReadAnswer) → getD (readValues a) 0 0 ≡ readNumber a
 unfolding readValues
@@ -245,7 +247,7 @@ read-first (Accepted a) = refl
 
 pub number-first : Number-first
 unfolding writeValues
-number-first = (read-first, λ a p. refl, λ cs. refl)
+number-first = (read-first, λ a p. refl, λ cs. refl, open-first)
 
 pub laid-each : Laid-each
 unfolding laidWords

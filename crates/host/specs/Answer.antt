@@ -6,8 +6,13 @@ use Prim.Native.Nat.{ℕ, _^_, _<_}
 use lib.Dec.{eqb}
 use lib.ListN.{length, take, drop}
 use Rattle.octets.specs.Pick.{pick}
+use Rattle.frame.specs.Answers.{numberOf as openRefusal}
 use Rattle.frame.specs.declared.closing.ControlWord.{ControlWord}
 use Rattle.frame.specs.declared.closing.ControlWord.the-variants.{Absent, Present}
+use Rattle.frame.specs.declared.counts.ChannelCount.{ChannelCount}
+use Rattle.frame.specs.declared.counts.MasterCount.{MasterCount}
+use Rattle.frame.specs.declared.opening.Frame.{Frame}
+use Rattle.frame.specs.declared.opening.Opened.{Opened}
 use Rattle.frame.specs.declared.set_up.SetUp.{SetUp}
 use Rattle.channel.specs.Busy.{maskOf, countOf, lowestOf}
 use Rattle.channel.specs.declared.state.Channel.{Channel}
@@ -27,13 +32,25 @@ laidWords old new = take (length old) new ++ drop (length new) old
 abbrev pub setUpOf : ℕ → ℕ → ℕ → SetUp
 setUpOf octets spacecraft check = record { length = octets; spacecraft = spacecraft; «error_control» = not (eqb check 0) }
 
-abbrev pub wordOf : ℕ → ℕ → ControlWord
-wordOf has word = pick (eqb has 0) Absent (Present word)
+abbrev pub givenWord : ℕ → ℕ → ControlWord
+givenWord has word = pick (eqb has 0) Absent (Present word)
+
+-- the two counts, each of its own type
+abbrev pub givenMaster : ℕ → MasterCount
+givenMaster master = record { 0 = master }
+
+abbrev pub givenCount : ℕ → ChannelCount
+givenCount count = record { 0 = count }
 
 -- where a writing goes on, and the counts of its frame
-abbrev pub placeOf : ℕ → ℕ → ℕ → ℕ → Place
-placeOf master count offset left =
-    record { offset = offset; «left_over» = left; master = record { 0 = master }; count = record { 0 = count } }
+abbrev pub givenPlace : ℕ → ℕ → ℕ → ℕ → Place
+givenPlace master count offset left =
+    record { offset = offset; «left_over» = left; master = givenMaster master; count = givenCount count }
+
+-- what an opening returns: the paper's number, 0 when the frame is accepted
+abbrev pub openNumber : Opened → ℕ
+openNumber (Opened.Refused r) = openRefusal r
+openNumber (Opened.Accepted x) = 0
 
 -- what a reading returns: the paper's number, 0 when it is accepted
 abbrev pub readNumber : Answer → ℕ
@@ -64,3 +81,14 @@ pub record ReportFits (a : Report) : Type 0 where
 abbrev pub Lays : Answer → Record → List ℕ → Type 0
 Lays (Refused r) after words = Unit {0}
 Lays (Accepted a) after words = ReportFits a × (NumbersFit after) × (length words ≡ 32)
+
+-- the values of a frame that are wider than a word in the frame part fit one
+pub record FrameFits (x : Frame) : Type 0 where
+  pub channel : x .header .channel < 2 ^ 32
+  pub pointer : x .header .pointer < 2 ^ 32
+  pub place : x .place < 2 ^ 32
+  pub size : x .size < 2 ^ 32
+
+abbrev pub OpenFits : Opened → Type 0
+OpenFits (Opened.Refused r) = Unit {0}
+OpenFits (Opened.Accepted x) = FrameFits x

@@ -1,14 +1,24 @@
 -- What is proved of the boundary besides the functions' contracts. The proofs are in proofs/Laws.antt, under these names in lower case.
 use mathlib.Core.Path.{_≡_}
 use mathlib.Core.Bool.{true, false}
-use mathlib.Core.List.{List}
+use mathlib.Core.List.{List, [], _∷_}
 use mathlib.Core.Logic.{_⊎_, _↔_}
 use Prim.Native.Nat.{ℕ, _+_, _*_, _/_, _%_, _^_, _<_, _≤_}
+use lib.Dec.{eqb}
 use lib.ListN.{length, getD, take, drop, replicate}
-use Rattle.packet.specs.Family.{Octets}
+use Rattle.octets.specs.Octets.{Octets}
+use Rattle.octets.specs.Pick.{pick}
 use Rattle.packet.specs.Size.{most, source}
-use Rattle.frame.specs.Opening.{row1}
+use Rattle.frame.specs.Answers.{numberOf as openRefusal, valuesOf as openValues, closeNumberOf}
+use Rattle.frame.specs.Closing.{closeSize, closeTable, fieldIn}
+use Rattle.frame.specs.Opening.{frameOf, openTable, row1}
+use Rattle.frame.specs.Theorems.{Points}
+use Rattle.frame.specs.declared.closing.CloseRefusal.{CloseRefusal}
 use Rattle.frame.specs.declared.closing.ControlWord.{ControlWord}
+use Rattle.frame.specs.declared.counts.ChannelCount.{ChannelCount}
+use Rattle.frame.specs.declared.counts.MasterCount.{MasterCount}
+use Rattle.frame.specs.declared.opening.Opened.{Opened}
+use Rattle.frame.specs.declared.opening.Refusal.{Refusal as OpenRefusal}
 use Rattle.frame.specs.declared.set_up.SetUp.{SetUp}
 use Rattle.channel.specs.Busy.{maskOf}
 use Rattle.channel.specs.Rules.{recordFollows}
@@ -25,9 +35,10 @@ use Rattle.writer.specs.Answers.{answerNumber, valuesOf as writeValues}
 use Rattle.writer.specs.Writing.{answerOf as writeAnswer}
 use Rattle.writer.specs.declared.writing.Answer.{Answer as WriteAnswer}
 use Rattle.writer.specs.declared.writing.Place.{Place}
-use Rattle.host.specs.Answer.{laidWords, busyValues, readNumber}
+use Rattle.table.specs.Table.{First, None}
+use Rattle.host.specs.Answer.{laidWords, busyValues, givenCount, givenMaster, givenWord, openNumber, readNumber}
 use Rattle.host.specs.Busy.{seen}
-use Rattle.host.specs.Calls.{ReadCall, WriteCall}
+use Rattle.host.specs.Calls.{CloseCall, OpenCall, ReadCall, WriteCall}
 use Rattle.host.specs.Words.{NumbersFit, packed, unpacked}
 
 -- a record of the right shape: eight channels, counts below 256, numbers below 2^32
@@ -98,12 +109,12 @@ Write-refused = (u : SetUp) (channel : ℕ) (p : Place) (w : ControlWord) (run o
 -- how many words an answer is
 abbrev pub Answer-sizes : Type 0
 Answer-sizes = ((a : ReadAnswer) → length (readValues a) ≡ 20) × ((a : WriteAnswer) (p : Place) → length (writeValues a p) ≡ 5)
-    × ((cs : List Channel) → length (busyValues cs) ≡ 3)
+    × ((cs : List Channel) → length (busyValues cs) ≡ 3) × ((o : Opened) → length (openValues o) ≡ 14)
 
 -- and the number that is returned is the first
 abbrev pub Number-first : Type 0
 Number-first = ((a : ReadAnswer) → getD (readValues a) 0 0 ≡ readNumber a) × ((a : WriteAnswer) (p : Place) → getD (writeValues a p) 0 0 ≡ answerNumber a)
-    × ((cs : List Channel) → getD (busyValues cs) 0 0 ≡ maskOf cs)
+    × ((cs : List Channel) → getD (busyValues cs) 0 0 ≡ maskOf cs) × ((o : Opened) → getD (openValues o) 0 0 ≡ openNumber o)
 
 -- the answer keeps its length, gets the words that fit, and keeps the rest
 pub record LaidEach (old new : List ℕ) : Type 0 where
@@ -125,3 +136,40 @@ Busy-exactly = (words : List ℕ) → ((v : ℕ) → v < 8 → maskOf (seen word
 -- of a record that was packed it is the record's mask, count and lowest channel
 abbrev pub Busy-packed : Type 0
 Busy-packed = (rec : Record) → length (rec .channels) ≡ 8 → busyValues (seen (packed rec)) ≡ busyValues (rec .channels)
+
+-- opening: a number is given exactly when its cause holds and no earlier one does, and 0 exactly when no cause holds
+abbrev pub Open-returns : Type 0
+Open-returns = (u : SetUp) (f answer : List ℕ) (r : ℕ) (answer′ : List ℕ) → OpenCall u f answer r answer′
+    → ((x : OpenRefusal) → r ≡ openRefusal x ↔ First (openTable u f) x) × (r ≡ 0 ↔ None (openTable u f))
+
+-- then the words are those of what the frame gives
+abbrev pub Open-accepted : Type 0
+Open-accepted = (u : SetUp) (f answer : List ℕ) (r : ℕ) (answer′ : List ℕ) → OpenCall u f answer r answer′ → r ≡ 0
+    → answer′ ≡ laidWords answer (openValues (Opened.Accepted (frameOf u f)))
+
+-- on a refusal all but the number are zero
+abbrev pub Open-refused : Type 0
+Open-refused = (u : SetUp) (f answer : List ℕ) (r : ℕ) (answer′ : List ℕ) → OpenCall u f answer r answer′ → (r ≡ 0 → ⊥)
+    → answer′ ≡ laidWords answer (r ∷ replicate 13 0)
+
+-- closing: a number is given exactly when its cause holds and no earlier one does, and 0 exactly when no cause holds
+abbrev pub Close-returns : Type 0
+Close-returns = (u : SetUp) (channel : ℕ) (m : MasterCount) (c : ChannelCount) (w : ControlWord) (p : ℕ) (out : List ℕ) (r : ℕ) (out′ : List ℕ)
+    → CloseCall u channel m c w p out r out′
+    → ((x : CloseRefusal) → r ≡ closeNumberOf x ↔ First (closeTable u channel out) x) × (r ≡ 0 ↔ None (closeTable u channel out))
+
+-- a refused closing leaves the output
+abbrev pub Close-refused : Type 0
+Close-refused = (u : SetUp) (channel : ℕ) (m : MasterCount) (c : ChannelCount) (w : ControlWord) (p : ℕ) (out : List ℕ) (r : ℕ) (out′ : List ℕ)
+    → CloseCall u channel m c w p out r out′ → (r ≡ 0 → ⊥) → out′ ≡ out
+
+-- a frame that was closed opens with the values given, around the data field that lay in the output: no secondary header, synchronisation
+-- and order flags 0, segment id 11, and the control word or none
+abbrev pub Close-opens : Type 0
+Close-opens = (u : SetUp) (channel m c has word p : ℕ) (out out′ answer : List ℕ) (r : ℕ) (answer′ : List ℕ) → m < 256 → c < 256 → word < 2 ^ 32
+    → Points p (closeSize u (givenWord has word)) → CloseCall u channel (givenMaster m) (givenCount c) (givenWord has word) p out 0 out′
+    → OpenCall u out′ answer r answer′
+    → (r ≡ 0)
+    × (answer′ ≡ laidWords answer
+    (0 ∷ u .spacecraft ∷ channel ∷ pick (eqb has 0) 0 1 ∷ m ∷ c ∷ 0 ∷ 0 ∷ 0 ∷ 3 ∷ p ∷ pick (eqb has 0) 0 word ∷ 6 ∷ closeSize u (givenWord has word) ∷ []))
+    × (take (closeSize u (givenWord has word)) (drop 6 out′) ≡ fieldIn u (givenWord has word) out)

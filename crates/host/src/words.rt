@@ -1,3 +1,4 @@
+use crate::answers::flag_word;
 use channel::Channel;
 use channel::Record;
 use channel::State;
@@ -6,7 +7,6 @@ ghost use mathlib.Core.Path.{_≡_};
 ghost use Prim.Native.Nat.{_+_, _≤_, _<_, _^_};
 ghost use lib.ListN.{length, getD};
 ghost use Rattle.octets.specs.Laid.{laid};
-ghost use Rattle.frame.specs.Answers.{bit};
 ghost use Rattle.host.specs.Busy.{seen, seenAt, seenState, stateAt};
 ghost use Rattle.host.specs.Words.{NumbersFit, brokenChannel, channelAt, numberWord, packed, packedChannel, stateWord, unpacked, unpackedChannel, unpackedState};
 
@@ -101,12 +101,6 @@ pub fn unpack(words: &[u32]) -> Record
             channel_at(words, 7),
         ],
     }
-}
-
-pub fn flag_word(flag: bool) -> u32
-    ensures { λ r. ⌜ r ≡ bit flag ⌝ }
-{
-    if flag { 1 } else { 0 }
 }
 
 fn state_word(state: State) -> u32

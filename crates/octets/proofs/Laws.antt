@@ -45,7 +45,11 @@ stored-four d at v h =
     rw (add-one, add-two, add-three, div-one)
     (sets-eq (v / 16777216 % 256 ∷ v / 65536 % 256 ∷ v / 256 % 256 ∷ v % 256 ∷ []) d at h)
 
--- a number in two octets, and in four
+-- a number in one octet, in two, in four and in six
+pub number-one : (l : List ℕ) (at : ℕ) → numberAt l at 1 ≡ getD l at 0
+unfolding numberAt
+number-one l at = rw add-zero (omega arith)
+
 pub number-two : (l : List ℕ) (at : ℕ) → numberAt l at 2 ≡ getD l at 0 * 256 + getD l (at + 1) 0
 unfolding numberAt
 number-two l at = rw add-zero (omega arith)
@@ -53,11 +57,6 @@ number-two l at = rw add-zero (omega arith)
 pub number-four : (l : List ℕ) (at : ℕ) → numberAt l at 4 ≡ numberAt l at 2 * 65536 + numberAt l (at + 2) 2
 unfolding numberAt
 number-four l at = simp (add-zero, add-assoc) (omega arith)
-
-pub number-six : (l : List ℕ) (at : ℕ)
-    → numberAt l at 6 ≡ numberAt l at 2 * 4294967296 + numberAt l (at + 2) 2 * 65536 + numberAt l (at + 4) 2
-unfolding numberAt
-number-six l at = simp (add-zero, add-assoc) (omega arith)
 
 -- two octets hold less than 2^16
 pub number-two-lt : (l : List ℕ) (at : ℕ) → getD l at 0 < 256 → getD l (at + 1) 0 < 256 → numberAt l at 2 < 65536

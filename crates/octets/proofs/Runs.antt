@@ -3,14 +3,16 @@
 use mathlib.Core.Path.{_≡_, refl, _∙_, sym, ap, ap₂}
 use mathlib.Core.List.{List, [], _∷_, _++_, append-assoc, append-nil}
 use Prim.Native.Nat.{ℕ, zero, suc, _+_, _*_, _/_, _%_, _^_, _≤_, _<_}
-use native.Mathlib.Nat.{add-zero, zero-add, add-assoc, suc-add, add-comm, mul-assoc, pow-suc, pow-succ', one-le-pow, mod-eq-of-lt, mod-one, div-div-eq-div-mul, mul-add-div-right, mul-add-mod-self-right}
+use native.Mathlib.Nat.{add-zero, zero-add, add-assoc, suc-add, add-suc, add-comm, mul-assoc, pow-suc, pow-succ', one-le-pow, mod-lt, mod-eq-of-lt, mod-one, div-div-eq-div-mul, mul-add-div-right, mul-add-mod-self-right}
 use native.Mathlib.Omega.{arith}
-use lib.Arith.{digits-div, mod-mul}
-use lib.ListN.{length, getD, take, drop, length-append, length-take, take-append-drop}
+use lib.Arith.{digits-lt, digits-div, mod-mul}
+use lib.ListN.{length, getD, take, drop, length-append, length-take, length-drop, take-append-drop, List·getD-append}
 use lib.Pow.{pow-add}
-use lib.Seq.{take-at, drop-drop, drop-length, take-append-add, drop-append-add, getD-append-add}
+use lib.Seq.{length-take-le, take-at, drop-drop, drop-length, take-append-add, drop-append-add, getD-append-add}
 use Rattle.octets.specs.Laid.{laid}
 use Rattle.octets.specs.Numbers.{numberAt, octetsOf}
+use Rattle.octets.specs.Octets.{Octets}
+use Rattle.octets.proofs.OctetLaws.{octets-drop, octets-take}
 
 -- nothing laid changes nothing
 pub laid-nil : (d : List ℕ) (at : ℕ) → laid d at [] ≡ d
@@ -106,3 +108,62 @@ number-back p r at n v e h =
     ∙ number-behind p (octetsOf n v ++ r) 0 n
     ∙ number-first n v r
     ∙ mod-eq-of-lt h
+
+-- the octets of a number are octets
+pub octets-lt : (n v : ℕ) → Octets (octetsOf n v)
+unfolding octetsOf
+octets-lt zero v i = omega arith
+octets-lt (suc n) v zero = mod-lt (v / 256 ^ n) (omega arith)
+octets-lt (suc n) v (suc i) = octets-lt n v i
+
+-- n octets hold less than 256^n
+pub number-lt : (l : List ℕ) (at n : ℕ) → Octets l → numberAt l at n < 256 ^ n
+unfolding numberAt
+number-lt l at zero o = omega arith
+number-lt l at (suc n) o = rw pow-suc (digits-lt (number-lt l at n o) (o (at + n)))
+
+-- the octets of the number in a list of octets are that list
+octets-back : (n : ℕ) (l : List ℕ) → Octets l → length l ≡ n → octetsOf n (numberAt l 0 n) ≡ l
+unfolding octetsOf
+octets-back zero [] o e = refl
+octets-back zero (a ∷ l) o e = cc
+octets-back (suc n) [] o e = cc
+octets-back (suc n) (a ∷ l) o e =
+    let y = numberAt l 0 n in
+    let lt : y < 256 ^ n = number-lt l 0 n (λ i. o (suc i)) in
+    rw (number-cons a l n)
+    (ap₂ (λ (b : ℕ) (t : List ℕ). b ∷ t)
+    (ap (λ (k : ℕ). k % 256) (digits-div a lt) ∙ mod-eq-of-lt (o 0))
+    (octets-low n a y ∙ octets-back n l (λ i. o (suc i)) (omega arith)))
+
+-- a number of m + n octets, by its first m and its last n
+pub number-append : (l : List ℕ) (at m n : ℕ) → numberAt l at (m + n) ≡ numberAt l at m * 256 ^ n + numberAt l (at + m) n
+unfolding numberAt
+number-append l at m zero = rw (add-zero m) (omega arith)
+number-append l at m (suc n) =
+    let g : getD l (at + (m + n)) 0 ≡ getD l (at + m + n) 0 = ap (λ (k : ℕ). getD l k 0) (sym (add-assoc at m n)) in
+    rw (add-suc, number-append l at m n, pow-suc) (omega arith)
+
+-- a number that stands between p and r
+pub number-between : (p l r : List ℕ) (at n : ℕ) → at + n ≤ length l → numberAt (p ++ l ++ r) (length p + at) n ≡ numberAt l at n
+unfolding numberAt
+number-between p l r at zero h = refl
+number-between p l r at (suc n) h =
+    ap₂ (λ (a b : ℕ). a * 256 + b)
+    (number-between p l r at n (omega arith))
+    (ap₂ (λ (t : List ℕ) (k : ℕ). getD t k 0) (append-assoc p l r) (add-assoc (length p) at n)
+    ∙ getD-append-add p (l ++ r) (at + n) 0
+    ∙ List·getD-append l r 0 (at + n) (omega arith))
+
+-- the octets of the number in a part of a list of octets are that part
+pub octets-at : (n : ℕ) (l : List ℕ) (at : ℕ) → Octets l → at + n ≤ length l → octetsOf n (numberAt l at n) ≡ take n (drop at l)
+octets-at n l at o h =
+    let p = take at l in
+    let m = take n (drop at l) in
+    let r = drop n (drop at l) in
+    let lp : length p ≡ at = length-take-le at l (omega arith) in
+    let lm : length m ≡ n = length-take-le n (drop at l) (omega (arith, length-drop at l)) in
+    let e : l ≡ p ++ m ++ r =
+    sym (take-append-drop at l) ∙ ap (λ (t : List ℕ). p ++ t) (sym (take-append-drop n (drop at l))) ∙ sym (append-assoc p m r) in
+    ap (octetsOf n) (ap₂ (λ (t : List ℕ) (k : ℕ). numberAt t k n) e (sym lp ∙ sym (add-zero (length p))) ∙ number-between p m r 0 n (omega arith))
+    ∙ octets-back n m (octets-take (drop at l) n (octets-drop l at o)) lm

@@ -1,3 +1,5 @@
 pub mod Laid
+pub mod Layout
 pub mod Numbers
+pub mod Octets
 pub mod Pick

@@ -16,16 +16,3 @@ bitsAt l at n first width = numberAt l at n / 2 ^ (8 * n - (first + width)) % 2 
 unfoldable pub octetsOf : ℕ → ℕ → List ℕ
 octetsOf zero v = []
 octetsOf (suc n) v = v / 256 ^ n % 256 ∷ octetsOf n v
-
--- a field of a layout: so many bits, and the number in them
-pub record Part : Type 0 where
-  pub width : ℕ
-  pub value : ℕ
-
-abbrev pub part : ℕ → ℕ → Part
-part w v = record { width = w; value = v }
-
--- fields laid one behind the other, most significant first, behind the number n
-unfoldable pub packed : ℕ → List Part → ℕ
-packed n [] = n
-packed n (p ∷ ps) = packed (n * 2 ^ p .width + p .value % 2 ^ p .width) ps

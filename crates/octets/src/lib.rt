@@ -82,7 +82,7 @@ pub fn fill(dst: &mut [u8], at: usize, count: usize, v: u8)
     }
 }
 
-pub fn least(a: usize, b: usize) -> usize
+pub fn lesser(a: usize, b: usize) -> usize
     ensures { λ r. ⌜ r ≡ min a b ⌝ }
 {
     if a < b { a } else { b }

@@ -1,23 +1,23 @@
 -- The laws of a packet's size (specs/Theorems).
 -- Assumes nothing.
 use mathlib.Core.Path.{_≡_, refl, _∙_, sym, ap}
+use mathlib.Core.Bool.{Bool, true, false, _&&_, false≢true}
 use mathlib.Core.List.{List, [], _++_, append-assoc}
 use Prim.Native.Nat.{ℕ, _+_, _-_, _%_, _≤_, _<_, min}
 use native.Mathlib.Decide.{decLt, ℕ-discrete}
 use native.Mathlib.Omega.{arith}
-use lib.Dec.{eqb}
+use lib.Dec.{eqb, leb}
 use lib.ListN.{length, take, drop, length-append, take-append-drop, List·getD-append}
 use lib.Seq.{getD-take, take-all, take-take, take-append-add, take-append-le, take-append-seam, length-take-le}
-use borrow.Author.Tests.{eq-eqb, ne-eqb, lt-ltb, le-ltb}
+use borrow.Author.Tests.{eq-eqb, ne-eqb, lt-ltb, le-ltb, le-leb, leb-true}
 use Rattle.octets.specs.Laid.{laid}
-use Rattle.octets.specs.Numbers.{bitsAt, numberAt}
-use Rattle.octets.proofs.Laws.{number-two}
+use Rattle.octets.proofs.Laws.{number-two, number-two-lt}
 use Rattle.packet.specs.declared.source.Size.{Size}
 use Rattle.packet.specs.declared.source.Size.the-variants.{Wait, Foreign, Total}
-use Rattle.packet.specs.Family.{Octets}
-use Rattle.packet.specs.Size.{versionOf, totalOf, idleOf, sizeOf}
-use Rattle.packet.specs.Theorems.{InWords, Size-in-words, In-octets, Idle-told, Source-lawful, First-tells, Total-most, Six-tell}
-use Rattle.packet.proofs.HeaderLaws.{version-is, application-is}
+use Rattle.octets.specs.Octets.{Octets}
+use Rattle.packet.specs.Size.{least, packetFits, versionOf, totalOf, idleOf, sizeOf}
+use Rattle.packet.specs.Theorems.{InWords, Size-in-words, In-octets, Idle-told, Source-lawful, First-tells, Fits-exactly, Fits-by-limit, Total-most, Six-tell}
+use Rattle.packet.proofs.HeaderLaws.{version-at, version-is, application-is, total-at, total-is}
 
 pub size-in-words : Size-in-words
 unfolding sizeOf
@@ -33,7 +33,7 @@ unfolding idleOf
 in-octets p = record {
   version = version-is p;
   idle = ap (λ (n : ℕ). eqb n 2047) (application-is p ∙ ap (λ (n : ℕ). n % 2048) (number-two p 0));
-  total = ap (λ (n : ℕ). n + 7) (number-two p 4);
+  total = λ a b. total-is p (number-two-lt p 4 a b) ∙ ap (λ (n : ℕ). n + 7) (number-two p 4);
 }
 
 pub idle-told : Idle-told
@@ -69,18 +69,20 @@ case-of p = first (ℕ-discrete (length p) 0)
 
 -- what the first octet tells, and the first six, is the same with more behind them
 version-more : (p q : List ℕ) → 1 ≤ length p → versionOf (p ++ q) ≡ versionOf p
-unfolding bitsAt numberAt
-version-more p q h = rw (List·getD-append p q 0 0)
+version-more p q h = version-at (p ++ q) ∙ rw (List·getD-append p q 0 0 h) (sym (version-at p))
 
 total-more : (p q : List ℕ) → 6 ≤ length p → totalOf (p ++ q) ≡ totalOf p
-unfolding numberAt
 total-more p q h =
     let a : 4 < length p = omega arith in
     let b : 5 < length p = omega arith in
-    rw (List·getD-append p q 0 4 a, List·getD-append p q 0 5 b)
+    total-at (p ++ q) ∙ rw (number-two (p ++ q) 4, List·getD-append p q 0 4 a, List·getD-append p q 0 5 b, ← number-two p 4) (sym (total-at p))
 
 longer : (p q : List ℕ) → length p ≤ length (p ++ q)
 longer p q = simp length-append (omega arith)
+
+both : (a b : Bool) → (a && b) ≡ true → (a ≡ true) × (b ≡ true)
+both true b e = (refl, e)
+both false b e = absurd (false≢true e)
 
 -- one answer is not another
 wait-foreign : {A : Type 0} {s : Size} → s ≡ Wait → s ≡ Foreign → A
@@ -134,8 +136,19 @@ total-least p n e = go (case-of p)
     go (few h v l) = wait-total (w .few h v l) e
     go (six h v) = omega (arith, total-same (w .six h v) e)
 
+pub fits-exactly : Fits-exactly
+unfolding packetFits
+fits-exactly limit n = (
+  λ e. let t = both (leb least n) (leb n limit) e in (leb-true least n (t .0), leb-true n limit (t .1)),
+  λ h. rw (le-leb least n (h .0), le-leb n limit (h .1)),
+)
+
+pub fits-by-limit : Fits-by-limit
+unfolding packetFits
+fits-by-limit limit p n e = rw (le-leb least n (total-least p n e))
+
 pub total-most : Total-most
-total-most p n a b e = go (case-of p)
+total-most p n e = go (case-of p)
   where
     w : InWords p
     w = size-in-words p
@@ -144,7 +157,7 @@ total-most p n a b e = go (case-of p)
     go (none h) = wait-total (w .none h) e
     go (other h v) = foreign-total (w .other h v) e
     go (few h v l) = wait-total (w .few h v l) e
-    go (six h v) = omega (arith, total-same (w .six h v) e, number-two p 4)
+    go (six h v) = omega (arith, total-same (w .six h v) e, total-at p)
 
 last-tells : (p q : List ℕ) (n : ℕ) → sizeOf (p ++ q) ≡ Total n → n ≤ length p → sizeOf p ≡ Total n
 last-tells p q n e h = go (case-of p)
@@ -183,7 +196,7 @@ skip-most p n o e = go (case-of p)
     go (none h) = wait-total (w .none h) e
     go (other h v) = foreign-total (w .other h v) e
     go (few h v l) = wait-total (w .few h v l) e
-    go (six h v) = omega (arith, total-most p n (o 4) (o 5) e)
+    go (six h v) = omega (arith, total-most p n e)
 
 pub source-lawful : Source-lawful
 source-lawful =

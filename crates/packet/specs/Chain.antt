@@ -28,7 +28,7 @@ chainIn (suc f) run =
 unfoldable pub chainOf : List ℕ → Bool
 chainOf run = chainIn (suc (length run)) run
 
--- "the distance from the offset to the first packet boundary at or after it (the run's end is one)"
+-- the distance from the offset to the first packet boundary at or after it; the run's end is one (decision 21)
 unfoldable pub distanceIn : ℕ → List ℕ → ℕ → ℕ
 distanceIn zero run offset = 0
 distanceIn (suc f) run offset =

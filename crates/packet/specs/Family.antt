@@ -4,7 +4,8 @@ use mathlib.Core.Bool.{Bool}
 use mathlib.Core.List.{List, [], _∷_, _++_}
 use mathlib.Core.Path.{_≡_}
 use Prim.Native.Nat.{ℕ, _+_, _≤_, _<_}
-use lib.ListN.{length, getD}
+use lib.ListN.{length}
+use Rattle.octets.specs.Octets.{Octets}
 use Rattle.packet.specs.declared.source.Size.{Size}
 use Rattle.packet.specs.declared.source.Size.the-variants.{Wait, Foreign, Total}
 
@@ -19,10 +20,6 @@ pub record Family : Type 0 where
   pub header : ℕ
   -- the most that can be still to come of a packet when its total is told: what a skip can be
   pub mostSkip : ℕ
-
--- a list of octets: each below 256, as in every slice that code is lent
-abbrev pub Octets : List ℕ → Type 0
-Octets l = (i : ℕ) → getD l i 0 < 256
 
 -- the laws of a family: all that the proofs above use of one
 pub record Lawful (F : Family) : Type 0 where

@@ -1,16 +1,22 @@
--- What is proved of a packet's size and of chains besides the functions' contracts. The proofs are in proofs/Laws.antt and proofs/ChainLaws.antt,
--- under these names in lower case.
+-- What is proved of a packet's size and of chains besides the functions' contracts. The proofs are in proofs/HeaderLaws.antt,
+-- proofs/Laws.antt and proofs/ChainLaws.antt, under these names in lower case.
 use mathlib.Core.Path.{_≡_}
 use mathlib.Core.Bool.{true}
 use mathlib.Core.List.{List, [], _∷_, _++_}
 use mathlib.Core.Logic.{_↔_}
 use Prim.Native.Nat.{ℕ, _+_, _-_, _*_, _/_, _%_, _≤_, _<_}
-use lib.Dec.{eqb}
+use lib.Dec.{eqb, leb}
 use lib.ListN.{length, getD, take}
 use Rattle.packet.specs.declared.source.Size.the-variants.{Wait, Foreign, Total}
 use Rattle.packet.specs.Chain.{chainOf, distanceOf}
 use Rattle.packet.specs.Family.{Lawful, Whole, AllWhole}
-use Rattle.packet.specs.Size.{formatMost, versionOf, totalOf, idleOf, sizeOf, source}
+use Rattle.octets.specs.Layout.{LaidIn}
+use Rattle.packet.specs.Header.{packetHeader, versionOf, totalOf, idleOf}
+use Rattle.packet.specs.Size.{least, formatMost, packetFits, sizeOf, source}
+
+-- "Packet header, 6 octets": its layout is one of which the laws of octets/specs/Layout speak
+abbrev pub Header-laid : Type 0
+Header-laid = LaidIn packetHeader 6
 
 -- source packets keep the laws of a packet family
 abbrev pub Source-lawful : Type 0
@@ -20,9 +26,16 @@ Source-lawful = Lawful source
 abbrev pub First-tells : Type 0
 First-tells = (p q : List ℕ) → sizeOf (p ++ q) ≡ Foreign → 1 ≤ length p → sizeOf p ≡ Foreign
 
--- a total is at most the format's
+-- a total is at most the format's, whatever the list holds
 abbrev pub Total-most : Type 0
-Total-most = (p : List ℕ) (n : ℕ) → getD p 4 0 < 256 → getD p 5 0 < 256 → sizeOf p ≡ Total n → n ≤ formatMost
+Total-most = (p : List ℕ) (n : ℕ) → sizeOf p ≡ Total n → n ≤ formatMost
+
+-- "delivered if it has 7 to 4,096 octets": of a total that octets tell the limit alone decides
+abbrev pub Fits-exactly : Type 0
+Fits-exactly = (limit total : ℕ) → packetFits limit total ≡ true ↔ ((least ≤ total) × (total ≤ limit))
+
+abbrev pub Fits-by-limit : Type 0
+Fits-by-limit = (limit : ℕ) (p : List ℕ) (n : ℕ) → sizeOf p ≡ Total n → packetFits limit n ≡ leb n limit
 
 -- only the first six octets tell
 abbrev pub Six-tell : Type 0
@@ -39,11 +52,11 @@ abbrev pub Size-in-words : Type 0
 Size-in-words = (p : List ℕ) → InWords p
 
 -- in octets: the first holds the version in its upper three bits, the first two the application id in their lower eleven, the fifth and
--- the sixth the length field
+-- the sixth the length field; version and total are said of octets, numbers below 256
 pub record InOctets (p : List ℕ) : Type 0 where
   pub version : getD p 0 0 < 256 → versionOf p ≡ getD p 0 0 / 32
   pub idle : idleOf p ≡ eqb ((getD p 0 0 * 256 + getD p 1 0) % 2048) 2047
-  pub total : totalOf p ≡ getD p 4 0 * 256 + getD p 5 0 + 7
+  pub total : getD p 4 0 < 256 → getD p 5 0 < 256 → totalOf p ≡ getD p 4 0 * 256 + getD p 5 0 + 7
 
 abbrev pub In-octets : Type 0
 In-octets = (p : List ℕ) → InOctets p

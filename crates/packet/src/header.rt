@@ -1,13 +1,13 @@
 use crate::source::Packet;
 ghost use mathlib.Core.Path.{_≡_};
-ghost use Prim.Native.Nat.{_≤_};
+ghost use Prim.Native.Nat.{_%_, _≤_};
 ghost use lib.ListN.{length};
-ghost use Rattle.packet.specs.Header.{headerOf};
+ghost use Rattle.packet.specs.Header.{packetHeaderOf, versionOf};
 
 // The values of a packet header.
 pub struct Header {
     pub version: u8,
-    pub kind: u8,
+    pub type_bit: u8,
     pub secondary: bool,
     pub application: usize,
     pub grouping: u8,
@@ -15,21 +15,36 @@ pub struct Header {
     pub total: usize,
 }
 
+// The version, which the first octet holds.
+pub fn version(packet: &[u8]) -> u8
+    requires { ⌜ 1 ≤ length (now packet) ⌝ }
+    ensures { λ r. ⌜ r ≡ versionOf (now (packet .entry)) ⌝ }
+{
+    (octets::octet(packet, 0) / 32) as u8
+}
+
+// The application id in the number that the first two octets hold.
+pub fn application(first: usize) -> usize
+    ensures { λ r. ⌜ r ≡ first % 2048 ⌝ }
+{
+    first % 2048
+}
+
 impl Header {
     pub fn of(packet: &[u8]) -> Header
         requires { ⌜ 6 ≤ length (now packet) ⌝ }
-        ensures { λ r. ⌜ r ≡ headerOf (now (packet .entry)) ⌝ }
+        ensures { λ r. ⌜ r ≡ packetHeaderOf (now (packet .entry)) ⌝ }
     {
-        let first = octets::number16(packet, 0);
-        let second = octets::number16(packet, 2);
+        let first = octets::octet(packet, 0);
+        let third = octets::octet(packet, 2);
         Header {
-            version: (first / 8192) as u8,
-            kind: (first / 4096 % 2) as u8,
-            secondary: first / 2048 % 2 == 1,
-            application: first % 2048,
-            grouping: (second / 16384) as u8,
-            sequence: second % 16384,
-            total: octets::number16(packet, 4) + Packet::MIN,
+            version: version(packet),
+            type_bit: (first / 16 % 2) as u8,
+            secondary: first / 8 % 2 == 1,
+            application: application(octets::number16(packet, 0)),
+            grouping: (third / 64) as u8,
+            sequence: octets::number16(packet, 2) % 16384,
+            total: Packet::total(packet),
         }
     }
 }

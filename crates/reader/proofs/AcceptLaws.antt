@@ -13,15 +13,17 @@ use Rattle.packet.specs.Size.{most, source}
 use Rattle.frame.specs.declared.opening.Frame.{Frame}
 use Rattle.channel.specs.Rules.{recordFollows, channelFollows, hunts}
 use Rattle.channel.specs.State.{freshChannel}
-use Rattle.channel.specs.Store.{placeOf, partOf, withPart}
+use Rattle.channel.specs.Store.{partPlace, partOf, withPart}
 use Rattle.channel.specs.declared.state.Record.{Record}
 use Rattle.channel.proofs.Laws.{part-inside, each-follows}
 use Rattle.channel.proofs.PartLaws.{cut-part}
 use Rattle.reader.specs.declared.reading.Answer.the-variants.{Accepted}
 use Rattle.walk.specs.declared.stepping.Course.{Course}
 use Rattle.reader.specs.declared.reading.Kind.{Kind}
-use Rattle.reader.specs.Reading.{kindOf, fieldOf, channelOf, reportOf, recordAfter, storeAfter, outputAfter, ReadBy, Ready}
-use Rattle.walk.specs.Steps.{Did, Fit, courseOf, gapFor, stepsOf}
+use Rattle.reader.specs.Inside.{ReadBy, Ready}
+use Rattle.reader.specs.Reading.{kindOf, fieldOf, channelOf, reportOf, recordAfter, storeAfter, outputAfter}
+use Rattle.walk.specs.Inside.{Fit}
+use Rattle.walk.specs.Steps.{Did, courseOf, gapFor, stepsOf}
 
 -- in a record that keeps the rules each channel does; one that is not there stands for a fresh one
 pub own-follows : (F : Family) (limit : ℕ) (store : List ℕ) (rec : Record) (v : ℕ) → recordFollows F limit store rec ≡ true
@@ -42,12 +44,12 @@ cut-field x f =
     rw e
 
 -- the store with the part that comes back from a loan
-part-back : (limit v at : ℕ) (store part : List ℕ) → at ≡ placeOf limit v
+part-back : (limit v at : ℕ) (store part : List ℕ) → at ≡ partPlace limit v
     → take at store ++ (part ++ drop (at + limit - at) (drop at store)) ≡ withPart limit v store part
 unfolding withPart
 part-back limit v at store part e =
     let n : at + (at + limit - at) ≡ at + limit = omega arith in
-    rw (drop-drop, n, e) (sym (append-assoc (take (placeOf limit v) store) part (drop (placeOf limit v + limit) store)))
+    rw (drop-drop, n, e) (sym (append-assoc (take (partPlace limit v) store) part (drop (partPlace limit v + limit) store)))
 
 module _ {F : Family} {limit : ℕ} (rec : Record) (x : Frame) (f store out : List ℕ) (r : Ready F limit rec x f store out) where
   pub field-length : length (fieldOf x f) ≡ x .size
@@ -56,7 +58,7 @@ module _ {F : Family} {limit : ℕ} (rec : Record) (x : Frame) (f store out : Li
   pub part-whole : length (partOf limit (x .header .channel) store) ≡ limit
   part-whole = part-inside limit (x .header .channel) store (r .store-whole) (r .channel)
 
-  module _ (at : ℕ) (e : at ≡ placeOf limit (x .header .channel)) where
+  module _ (at : ℕ) (e : at ≡ partPlace limit (x .header .channel)) where
     pub follows-cut : channelFollows F limit (take (at + limit - at) (drop at store)) (channelOf x rec) ≡ true
     follows-cut = rw (cut-part limit (x .header .channel) at store e) (own-follows F limit store rec (x .header .channel) (r .follows))
 
@@ -104,7 +106,7 @@ module _ (rec : Record) (x : Frame) (f store out : List ℕ) (r : Ready source m
         points = rw (field-length rec x f store out r) (r .points s);
       }
 
-  module _ (at : ℕ) (e : at ≡ placeOf most (x .header .channel)) where
+  module _ (at : ℕ) (e : at ≡ partPlace most (x .header .channel)) where
     pub fits-cut : x .header .synchronisation ≡ false
         → Fit most (take (at + most - at) (drop at store)) (take (x .place + x .size - x .place) (drop (x .place) f)) (x .header .pointer) out
     fits-cut s = rw (cut-part most (x .header .channel) at store e, cut-field x f) (fits s)

@@ -11,7 +11,8 @@ use lib.ListN.{length, getD, drop, length-set}
 use lib.Seq.{getD-set-same, getD-set-other}
 use Rattle.octets.specs.Laid.{laid}
 use Rattle.octets.proofs.Laws.{length-laid}
-use Rattle.packet.specs.Family.{Family, Lawful, Octets}
+use Rattle.octets.specs.Octets.{Octets}
+use Rattle.packet.specs.Family.{Family, Lawful}
 use Rattle.frame.specs.SetUp.{mostField}
 use Rattle.frame.specs.declared.opening.Frame.{Frame}
 use Rattle.channel.specs.Rules.{recordFollows, channelFollows}
@@ -19,15 +20,17 @@ use Rattle.channel.specs.State.{freshChannel}
 use Rattle.channel.specs.Store.{partOf}
 use Rattle.channel.specs.declared.state.Record.{Record}
 use Rattle.channel.proofs.Laws.{part-own, part-length, part-apart, each-follows}
-use Rattle.reader.specs.Reading.{fieldOf, channelOf, doneBy, reportOf, recordAfter, storeAfter, outputAfter, Ready}
+use Rattle.reader.specs.Inside.{Ready}
+use Rattle.reader.specs.Reading.{fieldOf, channelOf, doneBy, reportOf, recordAfter, storeAfter, outputAfter}
 use Rattle.reader.specs.declared.reading.Report.{Report}
-use Rattle.walk.specs.Steps.{Done, courseOf}
+use Rattle.walk.specs.Steps.{courseOf}
+use Rattle.walk.specs.Walk.{Done, noTally, handedAll, talliedAll}
 use Rattle.reader.specs.Theorems.{skipEnded}
-use Rattle.walk.specs.Walk.{noTally, handedAll, talliedAll}
 use Rattle.reader.proofs.AcceptLaws.{own-follows, field-length, part-whole}
 use Rattle.walk.proofs.FewLaws.{counted, steps-few}
 use Rattle.walk.proofs.KeepLaws.{LeavesBy, state-follows, steps-leave}
-use Rattle.walk.proofs.OctetLaws.{octets-take, octets-drop, octets-laid, octets-part, octets-with}
+use Rattle.octets.proofs.OctetLaws.{octets-take, octets-drop, octets-laid}
+use Rattle.walk.proofs.OctetLaws.{octets-part, octets-with}
 
 module _ (F : Family) (laws : Lawful F) (limit : ℕ) (rec : Record) (x : Frame) (f store out : List ℕ) (r : Ready F limit rec x f store out) where
   own-channel : channelFollows F limit (partOf limit (x .header .channel) store) (channelOf x rec) ≡ true

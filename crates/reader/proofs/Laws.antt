@@ -1,20 +1,26 @@
 -- The theorems of specs/Theorems.antt.
 -- Assumes nothing.
 use mathlib.Core.Path.{_≡_, refl, _∙_, sym, ap}
+use mathlib.Core.Bool.{true}
 use mathlib.Core.List.{List}
 use Prim.Native.Nat.{ℕ, _<_}
 use native.Mathlib.Numerals.{add-one}
 use native.Mathlib.Omega.{arith}
 use lib.Dec.{eqb}
-use lib.ListN.{getD}
+use lib.ListN.{length, getD}
+use lib.Seq.{getD-set-same, getD-set-other}
 use Rattle.octets.specs.Pick.{pick}
 use Rattle.octets.proofs.Laws.{zeros-all}
-use Rattle.packet.specs.Family.{Family, Octets}
+use Rattle.octets.specs.Octets.{Octets}
+use Rattle.packet.specs.Family.{Family}
 use Rattle.frame.specs.Opening.{frameOf}
 use Rattle.frame.specs.declared.opening.Refusal.the-variants.{SetUpRange, FrameLength, FrameCheck, FrameVersion, OtherSpacecraft, SecondaryHeader, NoData, OrderOrSegment, PointerPlace}
+use Rattle.frame.specs.declared.opening.Frame.{Frame}
 use Rattle.frame.specs.declared.set_up.SetUp.{SetUp}
 use Rattle.frame.proofs.NumberLaws.{number-one as frame-number-one}
-use Rattle.frame.proofs.TableLaws.{first-exactly, made}
+use Rattle.table.proofs.Laws.{first-exactly, made}
+use Rattle.channel.specs.State.{freshChannel}
+use Rattle.channel.specs.declared.state.Channel.{Channel}
 use Rattle.channel.specs.declared.state.Record.{Record}
 use Rattle.reader.specs.declared.reading.Answer.{Answer}
 use Rattle.reader.specs.declared.reading.Answer.the-variants.{Refused, Accepted}
@@ -22,9 +28,11 @@ use Rattle.reader.specs.declared.reading.Refusal.{Refusal}
 use Rattle.reader.specs.declared.reading.Refusal.the-variants.{OfFrame, StoreLength, OutputLength, BrokenRecord}
 use Rattle.reader.specs.declared.reading.Report.{Report}
 use Rattle.reader.specs.Answers.{numberOf, valuesOf}
-use Rattle.reader.specs.Reading.{readTableOver, channelOf, doneBy, reportOf, answerOver, storeOver, Ready}
-use Rattle.reader.specs.Theorems.{Number-exactly, Refused-zero, Accepted-values, Values-twenty, Accepted-exactly, Refused-untouched, Accepted-keeps, Others-apart, Few-enough}
-use Rattle.walk.specs.Theorems.{Sound}
+use Rattle.reader.specs.Inside.{Ready}
+use Rattle.reader.specs.Reading.{readTableOver, channelOf, doneBy, reportOf, recordAfter, answerOver, storeOver}
+use Rattle.reader.specs.Theorems.{Number-exactly, Refused-zero, Accepted-values, Values-twenty, Accepted-exactly, Refused-untouched, Accepted-keeps, Others-apart, Heard-in-words, HeardInWords, Few-enough}
+use Rattle.walk.specs.Theorems.{Roomy}
+use Rattle.walk.specs.Walk.{Done}
 use Rattle.reader.proofs.AfterLaws.{store-kept, output-kept, channels-kept, octets-kept, other-part, other-channel, record-kept, done-few}
 use Rattle.reader.proofs.ReadLaws.{LeftBy, found-none, found-cause, leaves, ready, refuses}
 
@@ -100,7 +108,7 @@ accepted-keeps F limit sound u rec store out f a os of eight e =
     }
 
 -- and the store stays a store of octets, whatever the answer
-pub store-octets : (F : Family) (limit : ℕ) → Sound F limit → (u : SetUp) (rec : Record) (store out f : List ℕ) → Octets store → Octets f
+pub store-octets : (F : Family) (limit : ℕ) → Roomy F limit → (u : SetUp) (rec : Record) (store out f : List ℕ) → Octets store → Octets f
     → Octets (storeOver F limit u rec store out f)
 store-octets F limit sound u rec store out f os of = go (answerOver F limit u rec store out f) refl
   where
@@ -120,6 +128,27 @@ others-apart F limit sound u rec store out f a w e h n =
       channel-kept = rw (← (l .record-left)) (other-channel F (sound .laws) limit (sound .wide) rec x f store out r w other);
       part-kept = rw (← (l .store-left)) (other-part F (sound .laws) limit (sound .wide) rec x f store out r w h other);
     }
+
+-- the frame's channel is made anew, and no other
+heard-after : (x : Frame) (rec : Record) (d : Done) → x .header .channel < length (rec .channels)
+    → HeardInWords (x .header) (d .state) rec (recordAfter x rec d)
+unfolding recordAfter
+heard-after x rec d there =
+    let own = getD-set-same (rec .channels) (x .header .channel) (record { heard = true; last = x .header .count; state = d .state }) freshChannel there in
+    record {
+      heard = ap (λ (c : Channel). c .heard) own;
+      last = ap (λ (c : Channel). c .last) own;
+      state-left = ap (λ (c : Channel). c .state) own;
+      others = λ w n. getD-set-other (rec .channels) (x .header .channel) w _ freshChannel n;
+    }
+
+pub heard-in-words : (F : Family) (limit : ℕ) → Heard-in-words F limit
+unfolding reportOf
+heard-in-words F limit u rec store out f a eight e =
+    let x = frameOf u f in
+    let h : x .header ≡ a .header = ap (λ (b : Report). b .header) (told F limit u rec store out f a e) in
+    let there : x .header .channel < length (rec .channels) = omega (arith, relied F limit u rec store out f a e .channel) in
+    rw (← h, ← (left F limit u rec store out f a e .record-left)) (heard-after x rec (doneBy F limit x rec store f) there)
 
 pub few-enough : (F : Family) (limit : ℕ) → Few-enough F limit
 few-enough F limit laws u rec store out f a e =

@@ -9,17 +9,17 @@ use native.Mathlib.Omega.{arith}
 use lib.ListN.{length}
 use borrow.Author.Tests.{not-false, eqb-true, leb-true, eq-eqb, ne-eqb}
 use Rattle.packet.specs.Family.{Family}
-use Rattle.frame.specs.Opening.{row1, frameTable, openOf, frameOf, idleData}
+use Rattle.frame.specs.Opening.{frameTable, openOf, frameOf, idleData}
 use Rattle.frame.specs.SetUp.{fitsOf}
-use Rattle.frame.specs.Table.{Row, First, None}
+use Rattle.table.specs.Table.{Row, First, None}
 use Rattle.frame.specs.declared.header.Header.{Header}
 use Rattle.frame.specs.declared.opening.Frame.{Frame}
 use Rattle.frame.specs.declared.opening.Opened.{Opened}
 use Rattle.frame.specs.declared.opening.Refusal.{Refusal as FrameRefusal}
 use Rattle.frame.specs.declared.opening.Refusal.the-variants.{SetUpRange}
 use Rattle.frame.specs.declared.set_up.SetUp.{SetUp}
-use Rattle.frame.proofs.Laws.{frame-refused, frame-accepted, opened-sound}
-use Rattle.frame.proofs.TableLaws.{first-gives, none-gives, first-exactly, none-exactly}
+use Rattle.frame.proofs.Laws.{row1-fits, frame-refused, frame-accepted, opened-sound}
+use Rattle.table.proofs.Laws.{first-gives, none-gives, first-exactly, none-exactly}
 use Rattle.channel.specs.Rules.{recordFollows}
 use Rattle.channel.specs.Store.{storeFits, outputFits}
 use Rattle.channel.specs.declared.state.Record.{Record}
@@ -30,7 +30,8 @@ use Rattle.reader.specs.declared.reading.Refusal.{Refusal}
 use Rattle.reader.specs.declared.reading.Refusal.the-variants.{OfFrame, StoreLength, OutputLength, BrokenRecord}
 use Rattle.reader.specs.declared.reading.Report.{Report}
 use Rattle.reader.specs.declared.reading.Kind.the-variants.{Packets, Idle, Private}
-use Rattle.reader.specs.Reading.{kindOf, ofFrame, readTableOver, channelOf, doneBy, reportOf, recordAfter, storeAfter, outputAfter, answerOver, recordOver, storeOver, outputOver, ReadOver, ReadBy, Ready}
+use Rattle.reader.specs.Inside.{ReadBy, Ready}
+use Rattle.reader.specs.Reading.{kindOf, ofFrame, readTableOver, channelOf, doneBy, reportOf, recordAfter, storeAfter, outputAfter, answerOver, recordOver, storeOver, outputOver, ReadOver}
 
 -- the kind of a frame
 module _ (h : Header) where
@@ -61,41 +62,41 @@ none-down [] h = tt
 none-down (a ∷ rows) h = (h .0, none-down rows (h .1))
 
 -- test 2 in numbers
-pub whole-store : (limit n : ℕ) → storeFits limit n ≡ true → n ≡ limit * 8
+whole-store : (limit n : ℕ) → storeFits limit n ≡ true → n ≡ limit * 8
 unfolding storeFits
 whole-store limit n e = eqb-true n (limit * 8) e
 
 -- the first cause, row by row, as the code tests them
 module _ (F : Family) (limit : ℕ) (u : SetUp) (rec : Record) (store out f : List ℕ) where
   pub at-set-up : fitsOf u ≡ false → First (readTableOver F limit u rec store out f) (OfFrame SetUpRange)
-  unfolding readTableOver row1
-  at-set-up a = inl (refl, rw a)
+  unfolding readTableOver
+  at-set-up a = inl (refl, row1-fits u .0 .1 a)
 
   module _ (a : fitsOf u ≡ true) where
     pub at-store : storeFits limit (length store) ≡ false → First (readTableOver F limit u rec store out f) StoreLength
-    unfolding readTableOver row1
-    at-store b = inr (rw a, inl (refl, rw b))
+    unfolding readTableOver
+    at-store b = inr (row1-fits u .1 .1 a, inl (refl, rw b))
 
     module _ (b : storeFits limit (length store) ≡ true) where
       pub at-output : outputFits limit (length out) ≡ false → First (readTableOver F limit u rec store out f) OutputLength
-      unfolding readTableOver row1
-      at-output c = inr (rw a, inr (rw b, inl (refl, rw c)))
+      unfolding readTableOver
+      at-output c = inr (row1-fits u .1 .1 a, inr (rw b, inl (refl, rw c)))
 
       module _ (c : outputFits limit (length out) ≡ true) where
         pub at-record : recordFollows F limit store rec ≡ false → First (readTableOver F limit u rec store out f) BrokenRecord
-        unfolding readTableOver row1
-        at-record d = inr (rw a, inr (rw b, inr (rw c, inl (refl, rw d))))
+        unfolding readTableOver
+        at-record d = inr (row1-fits u .1 .1 a, inr (rw b, inr (rw c, inl (refl, rw d))))
 
         module _ (d : recordFollows F limit store rec ≡ true) where
           pub at-frame : (r : FrameRefusal) → openOf u f ≡ Opened.Refused r → First (readTableOver F limit u rec store out f) (OfFrame r)
-          unfolding readTableOver row1
-          at-frame r e = inr (rw a, inr (rw b, inr (rw c, inr (rw d, first-up (frameTable u f) r (frame-refused u f r a .0 e)))))
+          unfolding readTableOver
+          at-frame r e = inr (row1-fits u .1 .1 a, inr (rw b, inr (rw c, inr (rw d, first-up (frameTable u f) r (frame-refused u f r a .0 e)))))
 
           pub at-none : (x : Frame) → openOf u f ≡ Opened.Accepted x → (x ≡ frameOf u f) × None (readTableOver F limit u rec store out f)
-          unfolding readTableOver row1
+          unfolding readTableOver
           at-none x e =
               let o = frame-accepted u f x .0 e in
-              (o .0, (rw a, (rw b, (rw c, (rw d, none-up (frameTable u f) (o .2))))))
+              (o .0, (row1-fits u .1 .1 a, (rw b, (rw c, (rw d, none-up (frameTable u f) (o .2))))))
 
 -- one answer is not the other
 accepted-refused : (a : Report) (r : Refusal) → Accepted a ≡ Refused r → ⊥
@@ -111,8 +112,8 @@ LeftBy F limit u rec store out f =
 module _ (F : Family) (limit : ℕ) (u : SetUp) (rec : Record) (store out f : List ℕ) where
   -- without a cause the frame opens
   pub opened : None (readTableOver F limit u rec store out f) → openOf u f ≡ Opened.Accepted (frameOf u f)
-  unfolding readTableOver row1
-  opened n = frame-accepted u f (frameOf u f) .1 (refl, not-false _ (n .0), none-down (frameTable u f) (n .1 .1 .1 .1))
+  unfolding readTableOver
+  opened n = frame-accepted u f (frameOf u f) .1 (refl, row1-fits u .1 .0 (n .0), none-down (frameTable u f) (n .1 .1 .1 .1))
 
   -- a call that is refused found a cause, and one that is accepted found none
   pub found-cause : (r : Refusal) → answerOver F limit u rec store out f ≡ Refused r → First (readTableOver F limit u rec store out f) r

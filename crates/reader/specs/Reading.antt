@@ -1,9 +1,9 @@
 -- Reading a frame: the table of refusals (01, "When the desk says no"), and what one call answers and leaves behind; over a packet family and
 -- the limit of a delivered packet, and at the end for source packets and 4,096.
-use mathlib.Core.Bool.{Bool, true, false, not}
+use mathlib.Core.Bool.{Bool, true, not}
 use mathlib.Core.List.{List, _∷_, map}
 use mathlib.Core.Path.{_≡_}
-use Prim.Native.Nat.{ℕ, _+_, _*_, _≤_, _<_}
+use Prim.Native.Nat.{ℕ}
 use lib.Dec.{eqb}
 use lib.ListN.{length, getD, set, take, drop}
 use Rattle.octets.specs.Laid.{laid}
@@ -11,10 +11,8 @@ use Rattle.octets.specs.Pick.{pick}
 use Rattle.packet.specs.Family.{Family}
 use Rattle.packet.specs.Size.{most, source}
 use Rattle.frame.specs.Opening.{row1, frameTable, frameOf, idleData}
-use Rattle.frame.specs.Closing.{channels}
-use Rattle.frame.specs.SetUp.{mostField, mostLength}
-use Rattle.frame.specs.Theorems.{Points}
-use Rattle.frame.specs.Table.{Row, row, firstCause}
+use Rattle.frame.specs.Header.{channels}
+use Rattle.table.specs.Table.{Row, row, firstCause}
 use Rattle.frame.specs.declared.header.Header.{Header}
 use Rattle.frame.specs.declared.opening.Frame.{Frame}
 use Rattle.frame.specs.declared.set_up.SetUp.{SetUp}
@@ -33,8 +31,8 @@ use Rattle.reader.specs.declared.reading.Report.{Report}
 use Rattle.reader.specs.declared.reading.Kind.{Kind}
 use Rattle.reader.specs.declared.reading.Kind.the-variants.{Packets, Idle, Private}
 use Rattle.walk.specs.declared.walking.Tally.{Tally}
-use Rattle.walk.specs.Steps.{Done, courseOf, gapFor, stepsOf}
-use Rattle.walk.specs.Walk.{handedAll}
+use Rattle.walk.specs.Steps.{courseOf, gapFor, stepsOf}
+use Rattle.walk.specs.Walk.{Done, handedAll}
 
 -- row 2: the store is not 32,768 octets
 abbrev pub row2 : ℕ → List ℕ → Bool
@@ -106,7 +104,7 @@ storeAfter limit x store d =
 unfoldable pub outputAfter : Family → List ℕ → Done → List ℕ
 outputAfter F out d = laid out 0 (handedAll F (d .whole))
 
--- one call: its answer, and the record, store and output that it leaves; "on a refusal record, store and output are untouched"
+-- one call: its answer, and the record, store and output that it leaves; "A refusal returns its number; record, store and output are untouched."
 unfoldable pub answerOver : Family → ℕ → SetUp → Record → List ℕ → List ℕ → List ℕ → Answer
 answerOver F limit u rec store out f =
     let x : Frame = frameOf u f in
@@ -134,25 +132,6 @@ pub record ReadOver (F : Family) (limit : ℕ) (u : SetUp) (rec : Record) (store
   pub record-left : rec′ ≡ recordOver F limit u rec store out f
   pub store-left : store′ ≡ storeOver F limit u rec store out f
   pub output-left : out′ ≡ outputOver F limit u rec store out f
-
--- the same of a frame that passed all tests and gives x
-pub record ReadBy (F : Family) (limit : ℕ) (x : Frame) (rec : Record) (store out f : List ℕ) (answer : Answer) (rec′ : Record)
-    (store′ out′ : List ℕ) : Type 0 where
-  pub answers : answer ≡ Accepted (reportOf F x (channelOf x rec) (doneBy F limit x rec store f))
-  pub record-left : rec′ ≡ recordAfter x rec (doneBy F limit x rec store f)
-  pub store-left : store′ ≡ storeAfter limit x store (doneBy F limit x rec store f)
-  pub output-left : out′ ≡ outputAfter F out (doneBy F limit x rec store f)
-
--- what the steps of a frame that gives x may rely on
-pub record Ready (F : Family) (limit : ℕ) (rec : Record) (x : Frame) (f store out : List ℕ) : Type 0 where
-  pub store-whole : length store ≡ limit * channels
-  pub output-room : limit + mostLength ≤ length out
-  pub follows : recordFollows F limit store rec ≡ true
-  pub inside : x .place + x .size ≤ length f
-  pub some : 1 ≤ x .size
-  pub few : x .size ≤ mostField
-  pub channel : x .header .channel < channels
-  pub points : x .header .synchronisation ≡ false → Points (x .header .pointer) (x .size)
 
 -- all of it for the desk's own packets and limit: source packets of up to 4,096 octets
 abbrev pub readTable : SetUp → Record → List ℕ → List ℕ → List ℕ → List (Row Refusal)

@@ -8,24 +8,27 @@ use Prim.Native.Nat.{ℕ, _+_, _*_, _<_}
 use lib.Dec.{eqb}
 use lib.ListN.{length, getD}
 use Rattle.octets.specs.Pick.{pick}
-use Rattle.packet.specs.Family.{Family, Lawful, Octets}
-use Rattle.frame.specs.Closing.{channels}
+use Rattle.octets.specs.Octets.{Octets}
+use Rattle.packet.specs.Family.{Family, Lawful}
+use Rattle.frame.specs.Header.{channels}
 use Rattle.frame.specs.Opening.{frameOf}
-use Rattle.frame.specs.Table.{First, None}
+use Rattle.table.specs.Table.{First, None}
+use Rattle.frame.specs.declared.header.Header.{Header}
 use Rattle.frame.specs.declared.opening.Frame.{Frame}
 use Rattle.frame.specs.declared.set_up.SetUp.{SetUp}
 use Rattle.channel.specs.Rules.{recordFollows}
 use Rattle.channel.specs.State.{freshChannel}
 use Rattle.channel.specs.Store.{partOf}
 use Rattle.channel.specs.declared.state.Record.{Record}
+use Rattle.channel.specs.declared.state.State.{State}
 use Rattle.reader.specs.declared.reading.Answer.{Answer}
 use Rattle.reader.specs.declared.reading.Answer.the-variants.{Refused, Accepted}
 use Rattle.reader.specs.declared.reading.Refusal.{Refusal}
 use Rattle.reader.specs.declared.reading.Report.{Report}
 use Rattle.reader.specs.Answers.{kindNumber, numberOf, valuesOf}
-use Rattle.reader.specs.Reading.{readTableOver, answerOver, recordOver, storeOver, outputOver, channelOf}
+use Rattle.reader.specs.Reading.{readTableOver, answerOver, recordOver, storeOver, outputOver, channelOf, doneBy}
 use Rattle.walk.specs.Steps.{carriesNone, gapFor}
-use Rattle.walk.specs.Theorems.{Sound, skipsOut}
+use Rattle.walk.specs.Theorems.{Roomy, skipsOut}
 
 -- a number is given exactly when its cause holds and no earlier one does
 abbrev pub Number-exactly : Family → ℕ → Type 0
@@ -37,7 +40,7 @@ abbrev pub Refused-zero : Family → ℕ → Type 0
 Refused-zero F limit = (u : SetUp) (rec : Record) (store out f : List ℕ) (r : Refusal) (i : ℕ)
     → answerOver F limit u rec store out f ≡ Refused r → getD (valuesOf (answerOver F limit u rec store out f)) (i + 1) 0 ≡ 0
 
--- the twenty values of an accepted frame's answer, by their places: the number 0, the kind, the header's fields but the version in the order of
+-- the twenty values of an accepted frame's answer, by their places: the number 0, the kind, the header's values but the version in the order of
 -- "Layouts" with flags as 1 and 0, control word, gap, and the counts
 pub record TwentyValues (a : Report) : Type 0 where
   pub number : getD (valuesOf (Accepted a)) 0 0 ≡ 0
@@ -90,7 +93,7 @@ pub record Keeps (F : Family) (limit : ℕ) (u : SetUp) (rec : Record) (store ou
   pub output-length : length (outputOver F limit u rec store out f) ≡ length out
 
 abbrev pub Accepted-keeps : Family → ℕ → Type 0
-Accepted-keeps F limit = Sound F limit → (u : SetUp) (rec : Record) (store out f : List ℕ) (a : Report) → Octets store → Octets f
+Accepted-keeps F limit = Roomy F limit → (u : SetUp) (rec : Record) (store out f : List ℕ) (a : Report) → Octets store → Octets f
     → length (rec .channels) ≡ channels → answerOver F limit u rec store out f ≡ Accepted a → Keeps F limit u rec store out f
 
 -- only the frame's own channel and its part of the store can change
@@ -99,8 +102,23 @@ pub record Apart (F : Family) (limit : ℕ) (u : SetUp) (rec : Record) (store ou
   pub part-kept : partOf limit w (storeOver F limit u rec store out f) ≡ partOf limit w store
 
 abbrev pub Others-apart : Family → ℕ → Type 0
-Others-apart F limit = Sound F limit → (u : SetUp) (rec : Record) (store out f : List ℕ) (a : Report) (w : ℕ)
+Others-apart F limit = Roomy F limit → (u : SetUp) (rec : Record) (store out f : List ℕ) (a : Report) (w : ℕ)
     → answerOver F limit u rec store out f ≡ Accepted a → w < channels → (w ≡ a .header .channel → ⊥) → Apart F limit u rec store out f w
+
+-- step 1: "Heard and last count are set", of the record before and after a frame with header h that left its channel in this state
+pub record HeardInWords (h : Header) (state : State) (before after : Record) : Type 0 where
+  -- the frame's channel is heard, its last count is the frame's, and its state is that one
+  pub heard : getD (after .channels) (h .channel) freshChannel .heard ≡ true
+  pub last : getD (after .channels) (h .channel) freshChannel .last ≡ h .count
+  pub state-left : getD (after .channels) (h .channel) freshChannel .state ≡ state
+  -- the other seven are as they were
+  pub others : (w : ℕ) → (w ≡ h .channel → ⊥) → getD (after .channels) w freshChannel ≡ getD (before .channels) w freshChannel
+
+-- so of every accepted frame, with the state of steps 1 to 5
+abbrev pub Heard-in-words : Family → ℕ → Type 0
+Heard-in-words F limit = (u : SetUp) (rec : Record) (store out f : List ℕ) (a : Report) → length (rec .channels) ≡ channels
+    → answerOver F limit u rec store out f ≡ Accepted a
+    → HeardInWords (a .header) (doneBy F limit (frameOf u f) rec store f .state) rec (recordOver F limit u rec store out f)
 
 -- a skip ended in this frame: it carries packets, there is no gap, and the channel skipped to a place within the field
 abbrev pub skipEnded : Frame → Record → ℕ

@@ -13,7 +13,8 @@ use walk::steps;
 ghost use mathlib.Core.Path.{_≡_};
 ghost use Rattle.packet.specs.Size.{most, source};
 ghost use Rattle.reader.specs.Answers.{numberOf};
-ghost use Rattle.reader.specs.Reading.{Read, ReadBy, Ready, kindOf};
+ghost use Rattle.reader.specs.Inside.{ReadBy, Ready};
+ghost use Rattle.reader.specs.Reading.{Read, kindOf};
 
 // What a frame carries: packets, idle data only, or private data.
 pub enum Kind {

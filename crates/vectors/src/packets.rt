@@ -37,7 +37,7 @@ pub fn header(seen: &[u8]) {
     }
     let h = Header::of(seen);
     value(b"header version=", h.version as usize);
-    value(b" type=", h.kind as usize);
+    value(b" type=", h.type_bit as usize);
     flag(b" secondary=", h.secondary);
     value(b" application=", h.application);
     value(b" grouping=", h.grouping as usize);

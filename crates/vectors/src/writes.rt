@@ -89,7 +89,7 @@ fn lay_packet(run: &mut [u8; ROOM], at: usize, total: usize, sequence: usize) ->
     }
     octets::put16(run, at, 1);
     octets::put16(run, at + 2, 49152 + sequence % 16384);
-    octets::put16(run, at + 4, total - Packet::MIN);
+    octets::put16(run, at + 4, total - Packet::LENGTH_BIAS);
     count_up(run, at + 6, at + total);
     at + total
 }

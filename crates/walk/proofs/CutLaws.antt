@@ -16,8 +16,8 @@ use Rattle.walk.specs.declared.walking.End.{End}
 use Rattle.walk.specs.declared.walking.Ended.{Ended}
 use Rattle.walk.specs.declared.walking.Seen.the-variants.{Stop, Whole}
 use Rattle.walk.specs.declared.walking.Tally.{Tally}
-use Rattle.walk.specs.Walk.{front, seenOf, cutOf, walkOf, finished}
-use Rattle.walk.specs.Steps.{CutFits, endedBy, heldBy}
+use Rattle.walk.specs.Inside.{CutFits, heldBy}
+use Rattle.walk.specs.Walk.{front, seenOf, cutOf, walkOf, endedWith, endedBy}
 use Rattle.walk.proofs.WalkLaws.{CutRest, sees-end, walk-ind, walk-stop, walk-whole}
 
 -- a part of the field from a place to its end
@@ -91,7 +91,7 @@ module _ (F : Family) (laws : Lawful F) (limit : ℕ) (field : List ℕ) (from :
   cut-fits-at part r (End.Cut k) h = let c = cut-in k h .1 in (c, omega arith)
   cut-fits-at part r (End.Oversize s) h = tt
 
-  pub cut-fits : (part : List ℕ) → length field ≤ length part → (t : Tally) (e : Ended) → e ≡ finished F t (walkOf F limit (drop from field))
+  pub cut-fits : (part : List ℕ) → length field ≤ length part → (t : Tally) (e : Ended) → e ≡ endedWith F t (walkOf F limit (drop from field))
       → CutFits (e .end) field part
-  unfolding finished
+  unfolding endedWith
   cut-fits part r t e h = cut-fits-at part r (e .end) (sym (ap (λ (x : Ended). x .end) h))

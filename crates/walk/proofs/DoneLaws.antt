@@ -15,8 +15,9 @@ use Rattle.walk.specs.declared.walking.End.{End}
 use Rattle.walk.specs.declared.walking.Ended.{Ended}
 use Rattle.walk.specs.declared.walking.Tally.{Tally}
 use Rattle.walk.specs.declared.walking.Seen.the-variants.{Stop}
-use Rattle.walk.specs.Walk.{cutOf, seenOf, walkOf, handedAll, noTally, talliedAll, finished}
-use Rattle.walk.specs.Steps.{Done, Did, broke, brokenCourse, courseBy, courseOf, disagreed, disagreedCourse, ended, endedBy, heldBy}
+use Rattle.walk.specs.Inside.{brokenCourse, courseBy, disagreedCourse, heldBy}
+use Rattle.walk.specs.Steps.{Did, broke, courseOf, disagreed}
+use Rattle.walk.specs.Walk.{cutOf, seenOf, walkOf, handedAll, noTally, talliedAll, endedWith, Done, ended, endedBy}
 use Rattle.walk.proofs.CutLaws.{held-in}
 use Rattle.walk.proofs.WalkLaws.{walk-stop, sees-foreign, sees-oversize}
 
@@ -76,7 +77,7 @@ course-by F End.Exact ws rest = refl
 course-by F (End.Cut k) ws rest = refl
 course-by F (End.Oversize r) ws rest = refl
 
-whole-by : (e : End) (ws : List (List ℕ)) (rest : List ℕ) → endedBy e ws rest .whole ≡ ws
+pub whole-by : (e : End) (ws : List (List ℕ)) (rest : List ℕ) → endedBy e ws rest .whole ≡ ws
 unfolding endedBy
 whole-by End.Foreign ws rest = refl
 whole-by End.Exact ws rest = refl
@@ -86,11 +87,11 @@ whole-by (End.Oversize r) ws rest = refl
 -- a run d whose walk ends as the one over the field from a place on, and what was settled at its end
 module _ (F : Family) (laws : Lawful F) (limit : ℕ) (field : List ℕ) (from : ℕ) (inside : from ≤ length field) (course : Course) (part part′ out out′ : List ℕ) (e : Ended) where
   pub did-walk : (d : List ℕ) → walkOf F limit d .end ≡ walkOf F limit (drop from field) .end
-      → walkOf F limit d .rest ≡ walkOf F limit (drop from field) .rest → (t : Tally) → t ≡ noTally → e ≡ finished F t (walkOf F limit d)
+      → walkOf F limit d .rest ≡ walkOf F limit (drop from field) .rest → (t : Tally) → t ≡ noTally → e ≡ endedWith F t (walkOf F limit d)
       → out′ ≡ laid out (t .filled) (handedAll F (walkOf F limit d .whole))
       → course ≡ courseBy (e .tally) (e .end) → part′ ≡ laid part 0 (heldBy (e .end) field)
       → Did F (ended (walkOf F limit d)) course part part′ out out′
-  unfolding finished
+  unfolding endedWith
   did-walk d ends rests t z f hands reports holds =
       let w = walkOf F limit d in
       let v = walkOf F limit (drop from field) in

@@ -11,17 +11,18 @@ use lib.ListN.{length, take, drop, length-append, length-take, length-drop}
 use lib.Seq.{length-take-le}
 use borrow.Author.Tests.{ltb-true, ltb-false, leb-true, leb-false, lt-ltb, le-leb}
 use Rattle.octets.specs.Pick.{pick}
-use Rattle.packet.specs.Family.{Family, Lawful, Octets}
+use Rattle.octets.specs.Octets.{Octets}
+use Rattle.packet.specs.Family.{Family, Lawful}
 use Rattle.packet.specs.declared.source.Size.{Size}
 use Rattle.packet.specs.declared.source.Size.the-variants.{Wait, Foreign, Total}
 use Rattle.channel.specs.Rules.{judged, stateFollows}
 use Rattle.channel.specs.declared.state.State.the-variants.{Gathering}
-use Rattle.channel.proofs.RuleLaws.{both, and}
+use Rattle.channel.proofs.RuleLaws.{both, and, gathers-told}
 use Rattle.walk.specs.declared.walking.End.{End}
 use Rattle.walk.specs.declared.walking.Seen.{Seen}
 use Rattle.walk.specs.declared.walking.Seen.the-variants.{Stop, Whole}
 use Rattle.walk.specs.Walk.{front, seenOf, cutOf, walkOf}
-use Rattle.walk.proofs.OctetLaws.{octets-drop, octets-take, octets-append}
+use Rattle.octets.proofs.OctetLaws.{octets-drop, octets-take, octets-append}
 use Rattle.walk.proofs.WalkLaws.{seen-whole, walk-stop, walk-whole, walk-ind}
 
 -- two answers that are not one
@@ -31,14 +32,11 @@ clash z = absurd (omega arith)
 -- of k held octets that keep the rules, the packet's total is above k, and at most the limit unless they wait
 pub held-total : (F : Family) (laws : Lawful F) (limit k n : ℕ) (part more : List ℕ) → length part ≡ limit
     → stateFollows F limit part (Gathering k) ≡ true → F .size (take k part ++ more) ≡ Total n → (k < n) × (limit < n → k < F .header)
-unfolding stateFollows judged
-held-total F laws limit k n part more l e t = go (F .size (take k part)) refl (b .1)
+unfolding judged
+held-total F laws limit k n part more l e t = go (F .size (take k part)) refl (gathers-told F limit part k e .2)
   where
-    b : (ltb k limit ≡ true) × (judged limit k (F .size (take k part)) ≡ true)
-    b = both _ _ e
-
     w : length (take k part) ≡ k
-    w = length-take-le k part (omega (arith, ltb-true k limit (b .0)))
+    w = length-take-le k part (gathers-told F limit part k e .1)
 
     above : F .size (take k part) ≡ Wait → Dec (k < n) → k < n
     above p (yes h) = h

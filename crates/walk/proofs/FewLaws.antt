@@ -23,9 +23,9 @@ use Rattle.walk.specs.declared.walking.End.{End}
 use Rattle.walk.specs.declared.walking.Seen.{Seen}
 use Rattle.walk.specs.declared.walking.Seen.the-variants.{Stop, Whole}
 use Rattle.walk.specs.declared.walking.Tally.{Tally}
-use Rattle.walk.specs.Steps.{Done, only, endedBy, ended, hunted, broke, disagreed, calledAt, agrees, gathered, skipped, resumed, gapFor, carriesNone, stepsOf}
+use Rattle.walk.specs.Steps.{hunted, broke, disagreed, calledAt, agrees, gathered, skipped, resumed, gapFor, carriesNone, stepsOf}
+use Rattle.walk.specs.Walk.{Done, only, endedBy, ended, seenOf, walkOf, tallied, talliedAll}
 use Rattle.walk.specs.Theorems.{Walk-few, skipsOut}
-use Rattle.walk.specs.Walk.{seenOf, walkOf, tallied, talliedAll}
 use Rattle.walk.proofs.EndLaws.{held-total}
 use Rattle.walk.proofs.WalkLaws.{seen-whole, walk-stop, walk-whole, walk-count, counted-more}
 

@@ -5,28 +5,28 @@ use mathlib.Core.Bool.{Bool, true, false}
 use mathlib.Core.List.{List, _++_}
 use Prim.Native.Nat.{ℕ, _+_, _-_, _≤_, _<_}
 use native.Mathlib.Omega.{arith}
-use lib.Dec.{ltb}
 use lib.ListN.{length, take, drop, length-append, length-take}
 use lib.Seq.{take-append-add, drop-append-add}
-use borrow.Author.Tests.{ltb-true, leb-true}
+use borrow.Author.Tests.{ltb-true, leb-true, leb-false}
 use Rattle.octets.specs.Laid.{laid}
 use Rattle.octets.proofs.Runs.{laid-behind}
 use Rattle.octets.specs.Pick.{pick}
-use Rattle.packet.specs.Size.{sizeOf, idleOf, source}
+use Rattle.packet.specs.Size.{packetFits, sizeOf, idleOf, source}
 use Rattle.packet.specs.declared.source.Size.{Size}
 use Rattle.frame.specs.SetUp.{mostField, mostLength}
 use Rattle.packet.specs.declared.source.Size.the-variants.{Wait, Foreign, Total}
-use Rattle.packet.proofs.Laws.{source-lawful, idle-told}
+use Rattle.packet.proofs.Laws.{source-lawful, fits-by-limit, idle-told}
 use Rattle.channel.specs.Rules.{judged, stateFollows}
 use Rattle.channel.specs.declared.state.State.the-variants.{Gathering}
-use Rattle.channel.proofs.RuleLaws.{both}
+use Rattle.channel.proofs.RuleLaws.{both, gathers-told}
 use Rattle.walk.specs.declared.stepping.Course.{Course}
 use Rattle.walk.specs.declared.walking.Ended.{Ended}
 use Rattle.walk.specs.declared.walking.Seen.the-variants.{Whole}
 use Rattle.walk.specs.declared.walking.Tally.{Tally}
-use Rattle.walk.specs.Walk.{seenOf, walkOf, handed, handedAll, noTally, oneIdle, oneDelivered, tallied, finished}
-use Rattle.walk.specs.Steps.{Did, courseBy, ended, heldBy}
-use Rattle.walk.proofs.WalkLaws.{walk-whole, sees-packet, counted-more, finished-more, output-more, idle-tally, idle-output, delivered-tally, delivered-output}
+use Rattle.walk.specs.Inside.{courseBy, heldBy}
+use Rattle.walk.specs.Steps.{Did}
+use Rattle.walk.specs.Walk.{seenOf, walkOf, handed, handedAll, noTally, oneIdle, oneDelivered, tallied, endedWith, ended}
+use Rattle.walk.proofs.WalkLaws.{walk-whole, sees-packet, counted-more, ended-with-more, output-more, idle-tally, idle-output, delivered-tally, delivered-output}
 use Rattle.walk.proofs.DoneLaws.{did-walk}
 
 -- the run of k held octets and the field
@@ -76,7 +76,7 @@ module _ (held field : List ℕ) (k n : ℕ) (e : k ≡ length held) (above : k 
   pub did-gather : (limit : ℕ) (course : Course) (part part′ out out₁ out′ : List ℕ) (t : Tally) (end : Ended)
       → sizeOf (held ++ field) ≡ Total n → n ≤ limit → n ≤ k + length field → k + length field ≤ length out
       → t ≡ tallied source noTally (take n (held ++ field)) → out₁ ≡ laid out 0 (handed source (take n (held ++ field)))
-      → end ≡ finished source t (walkOf source limit (drop (n - k) field))
+      → end ≡ endedWith source t (walkOf source limit (drop (n - k) field))
       → out′ ≡ laid out₁ (t .filled) (handedAll source (walkOf source limit (drop (n - k) field) .whole))
       → course ≡ courseBy (end .tally) (end .end) → part′ ≡ laid part 0 (heldBy (end .end) field)
       → Did source (ended (walkOf source limit (held ++ field))) course part part′ out out′
@@ -90,7 +90,7 @@ module _ (held field : List ℕ) (k n : ℕ) (e : k ≡ length held) (above : k 
       (rw (w, across-drop))
       noTally
       refl
-      (answer ∙ rw (et, ← across-drop) (finished-more source source-lawful limit noTally d n s))
+      (answer ∙ rw (et, ← across-drop) (ended-with-more source source-lawful limit noTally d n s))
       (output ∙ rw (et, e₁, ← across-drop) (output-more source source-lawful limit noTally d out n s (omega arith)))
       reports
       holds
@@ -123,13 +123,18 @@ module _ (held field out : List ℕ) (n : ℕ) (least : 7 ≤ n) where
 pub waits-room : (part field : List ℕ) (k : ℕ) → k ≤ length part → sizeOf (take k part ++ field) ≡ Wait → k + length field < 6
 waits-room part field k h e = omega (arith, source-lawful .header-tells (take k part ++ field) e, length-run part field k h)
 
+-- what the test of the limit says of a total that octets tell
+module _ (limit : ℕ) (p : List ℕ) (n : ℕ) {b : Bool} (t : sizeOf p ≡ Total n) (e : b ≡ packetFits limit n) where
+  pub too-long : b ≡ false → limit < n
+  too-long f = leb-false n limit (sym (fits-by-limit limit p n t) ∙ sym e ∙ f)
+
+  pub not-too-long : b ≡ true → n ≤ limit
+  not-too-long f = leb-true n limit (sym (fits-by-limit limit p n t) ∙ sym e ∙ f)
+
 -- what the rules say of k held octets
 pub gathers : (limit : ℕ) (part : List ℕ) (k : ℕ) → stateFollows source limit part (Gathering k) ≡ true
     → (k < limit) × (judged limit k (sizeOf (take k part)) ≡ true)
-unfolding stateFollows
-gathers limit part k e =
-    let t = both (ltb k limit) (judged limit k (sizeOf (take k part))) e in
-    (ltb-true k limit (t .0), t .1)
+gathers limit part k e = let t = gathers-told source limit part k e in (t .0, t .2)
 
 pub held-there : (limit : ℕ) (part : List ℕ) (k : ℕ) → length part ≡ limit → stateFollows source limit part (Gathering k) ≡ true
     → (k ≤ length part) × (k ≡ length (take k part))

@@ -8,22 +8,23 @@ use native.Mathlib.Omega.{arith}
 use lib.Dec.{eqb, leb}
 use lib.ListN.{length, take, drop, length-append, length-take, length-drop}
 use lib.Seq.{take-at}
-use borrow.Author.Tests.{leb-true, leb-false, lt-ltb, le-leb}
+use borrow.Author.Tests.{leb-true, leb-false, le-leb}
 use Rattle.octets.specs.Laid.{laid}
 use Rattle.octets.specs.Pick.{pick}
-use Rattle.packet.specs.Family.{Family, Lawful, Octets}
+use Rattle.octets.specs.Octets.{Octets}
+use Rattle.packet.specs.Family.{Family, Lawful}
 use Rattle.frame.specs.Opening.{noneStarts}
 use Rattle.frame.specs.declared.header.Header.{Header}
 use Rattle.channel.specs.Rules.{judged, stateFollows, hunts, channelFollows}
 use Rattle.channel.specs.declared.state.Channel.{Channel}
 use Rattle.channel.specs.declared.state.State.{State}
 use Rattle.channel.specs.declared.state.State.the-variants.{Hunting, Gathering, Skipping}
-use Rattle.channel.proofs.RuleLaws.{both, and}
+use Rattle.channel.proofs.RuleLaws.{both, and, gathers-from}
 use Rattle.walk.specs.declared.walking.End.{End}
-use Rattle.walk.specs.Steps.{Done, only, endedBy, ended, hunted, calledAt, agrees, gathered, skipped, resumed, gapFor, carriesNone, stepsOf}
-use Rattle.walk.specs.Walk.{walkOf, handedAll}
+use Rattle.walk.specs.Steps.{hunted, calledAt, agrees, gathered, skipped, resumed, gapFor, carriesNone, stepsOf}
+use Rattle.walk.specs.Walk.{Done, only, endedBy, ended, walkOf, handedAll}
 use Rattle.walk.proofs.EndLaws.{EndFollows, walk-follows, held-follows}
-use Rattle.walk.proofs.OctetLaws.{octets-drop}
+use Rattle.octets.proofs.OctetLaws.{octets-drop}
 use Rattle.walk.proofs.WalkLaws.{walk-fits}
 
 -- a channel that keeps the rules has a state that does
@@ -66,14 +67,15 @@ module _ (F : Family) (laws : Lawful F) (limit : ℕ) (O : Type 0) (room : ℕ) 
         short = omega arith;
         octets = λ o i. omega arith;
         hands = h;
-        keeps = λ part o. rw (laws .empty-waits) (and (lt-ltb 0 limit (omega (arith, laws .header-tells [] (laws .empty-waits)))) refl);
+        keeps = λ part o. gathers-from F limit (laid part 0 []) 0 (omega (arith, laws .header-tells [] (laws .empty-waits))) (omega arith) (rw (laws .empty-waits));
       }
   ended-by (End.Cut k) whole rest h f =
       record {
         short = omega arith;
         octets = f .3;
         hands = h;
-        keeps = λ part o. rw (take-at rest (drop (0 + length rest) part) k (f .0)) (and (lt-ltb k limit (f .1)) (f .2));
+        keeps = λ part o. gathers-from F limit (laid part 0 rest) k (f .1) (omega (arith, f .0, length-append rest (drop (0 + length rest) part)))
+            (rw (take-at rest (drop (0 + length rest) part) k (f .0)) (f .2));
       }
   ended-by (End.Oversize r) whole rest h f =
       record {

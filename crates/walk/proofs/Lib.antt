@@ -3,8 +3,11 @@ pub mod DoneLaws
 pub mod EndLaws
 pub mod FewLaws
 pub mod GatherLaws
+pub mod HandedLaws
+pub mod InWords
 pub mod KeepLaws
 pub mod OctetLaws
 pub mod SourceLaws
 pub mod StepLaws
 pub mod WalkLaws
+pub mod WordLaws

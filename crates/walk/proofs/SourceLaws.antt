@@ -3,7 +3,7 @@
 use native.Mathlib.Omega.{arith}
 use Rattle.packet.specs.Size.{most, source}
 use Rattle.packet.proofs.Laws.{source-lawful}
-use Rattle.walk.specs.Theorems.{Sound}
+use Rattle.walk.specs.Theorems.{Roomy}
 
-pub source-sound : Sound source most
-source-sound = record { laws = source-lawful; wide = omega arith }
+pub source-roomy : Roomy source most
+source-roomy = record { laws = source-lawful; wide = omega arith }

@@ -20,8 +20,9 @@ use Rattle.channel.specs.declared.state.Channel.{Channel}
 use Rattle.channel.specs.declared.state.State.{State}
 use Rattle.channel.specs.declared.state.State.the-variants.{Hunting, Gathering, Skipping}
 use Rattle.walk.specs.declared.walking.Tally.{Tally}
-use Rattle.walk.specs.Walk.{noTally, walkOf}
-use Rattle.walk.specs.Steps.{Fit, agrees, agreesBy, broke, calledAt, carriesNone, disagreed, ended, gapFor, gathered, hunted, only, resumed, skipped, stepsOf}
+use Rattle.walk.specs.Inside.{Fit}
+use Rattle.walk.specs.Steps.{agrees, agreesBy, broke, calledAt, carriesNone, disagreed, gapFor, gathered, hunted, resumed, skipped, stepsOf}
+use Rattle.walk.specs.Walk.{noTally, walkOf, ended, only}
 
 -- the pointer that an end calls for
 module _ (D end : ℕ) where

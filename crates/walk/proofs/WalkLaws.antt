@@ -21,7 +21,7 @@ use Rattle.walk.specs.declared.walking.Seen.{Seen}
 use Rattle.walk.specs.declared.walking.Seen.the-variants.{Stop, Whole}
 use Rattle.walk.specs.declared.walking.Tally.{Tally}
 use Rattle.octets.proofs.Runs.{laid-nil, laid-behind}
-use Rattle.walk.specs.Walk.{front, seenOf, Walked, cutOf, turn, turns, walkOf, handed, handedAll, oneIdle, oneDelivered, tallied, talliedAll, finished}
+use Rattle.walk.specs.Walk.{front, seenOf, Walked, cutOf, turn, turns, walkOf, handed, handedAll, oneIdle, oneDelivered, tallied, talliedAll, endedWith}
 use Rattle.walk.specs.Theorems.{Walk-turn}
 
 -- a whole packet at the front: its total, within the limit, is there
@@ -163,10 +163,10 @@ counted-more F t p = go (F .idle p)
     go true = omega arith
     go false = omega arith
 
-pub finished-more : (F : Family) (laws : Lawful F) (limit : ℕ) (t : Tally) (d : List ℕ) (n : ℕ) → seenOf F limit d ≡ Whole n
-    → finished F (tallied F t (take n d)) (walkOf F limit (drop n d)) ≡ finished F t (walkOf F limit d)
-unfolding finished talliedAll
-finished-more F laws limit t d n s = rw (walk-whole F laws limit d n s)
+pub ended-with-more : (F : Family) (laws : Lawful F) (limit : ℕ) (t : Tally) (d : List ℕ) (n : ℕ) → seenOf F limit d ≡ Whole n
+    → endedWith F (tallied F t (take n d)) (walkOf F limit (drop n d)) ≡ endedWith F t (walkOf F limit d)
+unfolding endedWith talliedAll
+ended-with-more F laws limit t d n s = rw (walk-whole F laws limit d n s)
 
 pub output-more : (F : Family) (laws : Lawful F) (limit : ℕ) (t : Tally) (d out : List ℕ) (n : ℕ) → seenOf F limit d ≡ Whole n → t .filled + length d ≤ length out
     → laid (laid out (t .filled) (handed F (take n d))) (tallied F t (take n d) .filled) (handedAll F (walkOf F limit (drop n d) .whole))
@@ -177,10 +177,10 @@ output-more F laws limit t d out n s h =
     rw (filled-more, walk-whole F laws limit d n s)
     (laid-behind out (t .filled) (t .filled + length (handed F (take n d))) (handed F (take n d)) (handedAll F (walkOf F limit (drop n d) .whole)) l refl)
 
-pub finished-stop : (F : Family) (laws : Lawful F) (limit : ℕ) (t : Tally) (d : List ℕ) (e : End) → seenOf F limit d ≡ Stop e
-    → record { tally = t; end = e } ≡ finished F t (walkOf F limit d)
-unfolding finished talliedAll
-finished-stop F laws limit t d e s = rw (walk-stop F laws limit d e s)
+pub ended-with-stop : (F : Family) (laws : Lawful F) (limit : ℕ) (t : Tally) (d : List ℕ) (e : End) → seenOf F limit d ≡ Stop e
+    → record { tally = t; end = e } ≡ endedWith F t (walkOf F limit d)
+unfolding endedWith talliedAll
+ended-with-stop F laws limit t d e s = rw (walk-stop F laws limit d e s)
 
 pub output-stop : (F : Family) (laws : Lawful F) (limit : ℕ) (d out : List ℕ) (e : End) (at : ℕ) → seenOf F limit d ≡ Stop e
     → out ≡ laid out at (handedAll F (walkOf F limit d .whole))
@@ -241,7 +241,7 @@ looked F limit field at s e =
 pub record Kept (F : Family) (limit : ℕ) (field : List ℕ) (from : ℕ) (out₀ : List ℕ) (t₀ : Tally) (out : List ℕ) (t : Tally) (at : ℕ) : Type 0 where
   pub inside : at ≤ length field
   pub length-kept : length out ≡ length out₀
-  pub same : finished F t (walkOf F limit (drop at field)) ≡ finished F t₀ (walkOf F limit (drop from field))
+  pub same : endedWith F t (walkOf F limit (drop at field)) ≡ endedWith F t₀ (walkOf F limit (drop from field))
   pub output : laid out (t .filled) (handedAll F (walkOf F limit (drop at field) .whole))
       ≡ laid out₀ (t₀ .filled) (handedAll F (walkOf F limit (drop from field) .whole))
   pub room : t .filled + (length field - at) ≤ length out₀
@@ -274,7 +274,7 @@ module _ (F : Family) (laws : Lawful F) (limit : ℕ) (field : List ℕ) (from :
         record {
           inside = omega (arith, st .there, k .inside);
           length-kept = ap length eo′ ∙ length-laid out (t .filled) (handed F (take n d)) lh ∙ k .length-kept;
-          same = rw (on, et′) (finished-more F laws limit t d n s ∙ k .same);
+          same = rw (on, et′) (ended-with-more F laws limit t d n s ∙ k .same);
           output = rw (on, eo′, et′) (output-more F laws limit t d out n s room ∙ k .output);
           room = omega (arith, handed-fits F (take n d), length-take n d, st .there, k .room, k .inside);
           counts = omega (arith, st .there, st .some, k .counts, k .inside);
@@ -282,9 +282,9 @@ module _ (F : Family) (laws : Lawful F) (limit : ℕ) (field : List ℕ) (from :
 
     -- the walk ended
     pub kept-end : (e : End) → seenOf F limit (drop at field) ≡ Stop e
-        → (record { tally = t; end = e } ≡ finished F t₀ (walkOf F limit (drop from field)))
+        → (record { tally = t; end = e } ≡ endedWith F t₀ (walkOf F limit (drop from field)))
         × (out ≡ laid out₀ (t₀ .filled) (handedAll F (walkOf F limit (drop from field) .whole)))
     kept-end e s = (
-      finished-stop F laws limit t (drop at field) e s ∙ k .same,
+      ended-with-stop F laws limit t (drop at field) e s ∙ k .same,
       output-stop F laws limit (drop at field) out e (t .filled) s ∙ k .output,
     )

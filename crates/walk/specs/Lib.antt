@@ -1,3 +1,4 @@
+pub mod Inside
 pub mod Steps
 pub mod Theorems
 pub mod Walk

@@ -1,4 +1,5 @@
--- The walk from packet to packet (01, step 5), over a packet family and the limit of a delivered packet.
+-- The walk from packet to packet (01, step 5), over a packet family and the limit of a delivered packet: the walk itself, what its end means
+-- for the channel, and what is handed out and counted of its whole packets.
 use mathlib.Core.List.{List, [], _∷_, _++_}
 use Prim.Native.Nat.{ℕ, zero, suc, _+_, _-_}
 use lib.Dec.{eqb, ltb, leb}
@@ -7,6 +8,8 @@ use Rattle.octets.specs.Pick.{pick}
 use Rattle.packet.specs.Family.{Family}
 use Rattle.packet.specs.declared.source.Size.{Size}
 use Rattle.packet.specs.declared.source.Size.the-variants.{Wait, Foreign, Total}
+use Rattle.channel.specs.declared.state.State.{State}
+use Rattle.channel.specs.declared.state.State.the-variants.{Hunting, Gathering, Skipping}
 use Rattle.walk.specs.declared.walking.End.{End}
 use Rattle.walk.specs.declared.walking.Seen.{Seen}
 use Rattle.walk.specs.declared.walking.Seen.the-variants.{Stop, Whole}
@@ -54,6 +57,35 @@ turns F limit (suc f) d = turn (seenOf F limit d) d (turns F limit f)
 unfoldable pub walkOf : Family → ℕ → List ℕ → Walked
 walkOf F limit d = turns F limit (suc (length d)) d
 
+-- what a frame did to its channel: the new state, the held octets, the whole packets in order, and the counts
+pub record Done : Type 0 where
+  pub state : State
+  pub held : List ℕ
+  pub whole : List (List ℕ)
+  pub broken : ℕ
+  pub disagreement : ℕ
+  pub foreign : ℕ
+  pub oversize : ℕ
+
+-- nothing came out, and the channel is in this state
+abbrev pub only : State → Done
+only s = record { state = s; held = []; whole = []; broken = 0; disagreement = 0; foreign = 0; oversize = 0 }
+
+-- step 5, by why the walk ended: "foreign 1, the rest of the frame is dropped, and the channel hunts"; "oversize 1 [..]; then skip";
+-- "A packet cut by the field's end is held. An exact end is gathering 0."
+unfoldable pub endedBy : End → List (List ℕ) → List ℕ → Done
+endedBy End.Foreign whole rest =
+    record { state = Hunting; held = []; whole = whole; broken = 0; disagreement = 0; foreign = 1; oversize = 0 }
+endedBy End.Exact whole rest =
+    record { state = Gathering 0; held = []; whole = whole; broken = 0; disagreement = 0; foreign = 0; oversize = 0 }
+endedBy (End.Cut k) whole rest =
+    record { state = Gathering k; held = rest; whole = whole; broken = 0; disagreement = 0; foreign = 0; oversize = 0 }
+endedBy (End.Oversize r) whole rest =
+    record { state = Skipping r; held = []; whole = whole; broken = 0; disagreement = 0; foreign = 0; oversize = 1 }
+
+abbrev pub ended : Walked → Done
+ended w = endedBy (w .end) (w .whole) (w .rest)
+
 -- "A finished packet is delivered, or counted if idle": the octets that it gives to the output
 unfoldable pub handed : Family → List ℕ → List ℕ
 handed F p = pick (F .idle p) [] p
@@ -83,5 +115,5 @@ talliedAll F t [] = t
 talliedAll F t (p ∷ ps) = talliedAll F (tallied F t p) ps
 
 -- what a walk that starts with counts t comes to
-unfoldable pub finished : Family → Tally → Walked → Ended
-finished F t w = record { tally = talliedAll F t (w .whole); end = w .end }
+unfoldable pub endedWith : Family → Tally → Walked → Ended
+endedWith F t w = record { tally = talliedAll F t (w .whole); end = w .end }

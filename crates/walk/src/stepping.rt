@@ -13,14 +13,13 @@ ghost use mathlib.Core.List.{_++_};
 ghost use Prim.Native.Nat.{_+_, _-_, _≤_, _<_};
 ghost use lib.ListN.{length, take, drop};
 ghost use Rattle.octets.specs.Laid.{laid};
-ghost use Rattle.octets.specs.Pick.{pick};
 ghost use Rattle.packet.specs.Size.{formatMost, least, sizeOf, source};
-ghost use Rattle.channel.specs.Busy.{busyState};
 ghost use Rattle.channel.specs.Rules.{channelFollows, stateFollows};
 ghost use Rattle.frame.specs.Opening.{idleData};
 ghost use Rattle.frame.specs.SetUp.{mostField, mostLength};
-ghost use Rattle.walk.specs.Steps.{CutFits, Did, Fit, agrees, brokenBy, brokenCourse, calledAt, carriesNone, courseBy, disagreedCourse, ended, gapFor, heldBy, hunted, resumed, stepsOf};
-ghost use Rattle.walk.specs.Walk.{handed, noTally, tallied, walkOf};
+ghost use Rattle.walk.specs.Inside.{CutFits, Fit, brokenCourse, courseBy, disagreedCourse, heldBy};
+ghost use Rattle.walk.specs.Steps.{Did, agrees, brokenBy, calledAt, carriesNone, gapFor, hunted, resumed, stepsOf};
+ghost use Rattle.walk.specs.Walk.{ended, handed, noTally, tallied, walkOf};
 
 // What a frame did to its channel: whole packets, the new state, the counts.
 pub struct Course {
@@ -148,7 +147,7 @@ fn gather(
         Size::Foreign => plain(none_yet(), State::Hunting, 1, 0),
         Size::Wait => hold_more(field, k, part),
         Size::Total(total) => {
-            if limit < total {
+            if !Packet::fits_within(total, limit) {
                 return plain(none_yet(), State::Skipping(total - there), 0, 1);
             }
             if there < total {

@@ -1,12 +1,11 @@
 use packet::Packet;
 use packet::Size;
 ghost use mathlib.Core.Path.{_≡_};
-ghost use mathlib.Core.List.{_++_};
 ghost use Prim.Native.Nat.{_+_, _-_, _≤_, _<_};
-ghost use lib.ListN.{length, take, drop};
+ghost use lib.ListN.{length, drop};
 ghost use Rattle.octets.specs.Laid.{laid};
 ghost use Rattle.packet.specs.Size.{source};
-ghost use Rattle.walk.specs.Walk.{seenOf, tallied, handed, walkOf, handedAll, finished};
+ghost use Rattle.walk.specs.Walk.{seenOf, tallied, handed, walkOf, handedAll, endedWith};
 
 // Why a walk ended: at another version, exactly at a packet's end, in the midst of a packet of which k octets are there, or in one
 // that is too long and of which r octets are still to come.
@@ -50,7 +49,7 @@ fn look(seen: &[u8], limit: usize) -> Seen
             }
         }
         Size::Total(total) => {
-            if limit < total {
+            if !Packet::fits_within(total, limit) {
                 Seen::Stop(End::Oversize(total - n))
             } else if total <= n {
                 Seen::Whole(total)
@@ -86,7 +85,7 @@ fn hand_out(packet: &[u8], out: &mut [u8], t: Tally) -> Tally
 // Step 5, from place `from` of the data field on.
 pub fn walk(field: &[u8], from: usize, limit: usize, out: &mut [u8], start: Tally) -> Ended
     requires { ⌜ (from ≤ length (now field)) × (length (now field) ≤ limit) × (start .filled + (length (now field) - from) ≤ length (now out)) × (start .delivered + start .idle + (length (now field) - from) ≤ length (now out)) ⌝ }
-    ensures answer { λ r. ⌜ r ≡ finished source start (walkOf source limit (drop from (now (field .entry)))) ⌝ }
+    ensures answer { λ r. ⌜ r ≡ endedWith source start (walkOf source limit (drop from (now (field .entry)))) ⌝ }
     ensures output { λ _. ⌜ now (out .exit) ≡ laid (now (out .entry)) (start .filled) (handedAll source (walkOf source limit (drop from (now (field .entry))) .whole)) ⌝ }
 {
     let mut t = start;

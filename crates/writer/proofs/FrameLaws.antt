@@ -24,7 +24,8 @@ use Rattle.writer.specs.declared.laying.Laid.{Laid}
 use Rattle.writer.specs.declared.writing.Answer.the-variants.{Frame}
 use Rattle.writer.specs.declared.writing.Place.{Place}
 use Rattle.writer.specs.Laying.{fieldOf, leftOverAfter, nothingOf, pointerOf, runPart}
-use Rattle.writer.specs.Writing.{frameWritten, nextPlace, Ready, WroteBy}
+use Rattle.writer.specs.Inside.{Ready, WroteBy}
+use Rattle.writer.specs.Writing.{frameWritten, nextPlace}
 use Rattle.writer.proofs.LayingLaws.{length-field}
 
 -- the data field's place in the output, and the field laid there

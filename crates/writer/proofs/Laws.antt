@@ -1,26 +1,31 @@
 -- The theorems of specs/Theorems.antt.
 -- Assumes nothing.
-use mathlib.Core.Path.{_≡_, refl, _∙_, sym, ap}
+use mathlib.Core.Path.{_≡_, refl, _∙_, sym, ap, ap₂}
 use mathlib.Core.Bool.{false}
-use mathlib.Core.List.{List}
+use mathlib.Core.List.{List, [], _∷_, _++_}
 use mathlib.Core.Logic.{_⊎_, inl, inr}
-use Prim.Native.Nat.{ℕ, _+_, _≤_}
+use Prim.Native.Nat.{ℕ, _+_, _-_, _%_, _≤_}
 use native.Mathlib.Omega.{arith}
-use lib.ListN.{length, take, drop}
+use lib.ListN.{length, take, drop, replicate}
+use Rattle.octets.specs.Layout.{bitsTogether, octetsIn, numbered, laidOut}
+use Rattle.octets.specs.Numbers.{octetsOf}
+use Rattle.octets.proofs.Runs.{octets-append}
 use Rattle.frame.specs.Closing.{closeSize}
 use Rattle.frame.specs.Opening.{openOf}
 use Rattle.frame.specs.declared.set_up.SetUp.{SetUp}
 use Rattle.frame.proofs.ClosingLaws.{sizes}
 use Rattle.frame.proofs.Laws.{closed-opens}
-use Rattle.frame.proofs.TableLaws.{first-exactly, first-gives, none-exactly, none-gives, made}
+use Rattle.table.proofs.Laws.{first-exactly, first-gives, none-exactly, none-gives, made}
 use Rattle.packet.specs.Chain.{distanceOf}
+use Rattle.packet.specs.Header.{packetHeader}
 use Rattle.writer.specs.declared.writing.Answer.the-variants.{Refused, Frame}
 use Rattle.writer.specs.declared.writing.Place.{Place}
 use Rattle.writer.specs.declared.writing.Refusal.{Refusal}
 use Rattle.writer.specs.Answers.{numberOf, answerNumber, valuesOf}
-use Rattle.writer.specs.Laying.{leftOverAfter, nothingOf, runPart}
-use Rattle.writer.specs.Theorems.{Number-exactly, Written-exactly, Refused-untouched, Written-opens, Laid-well, Goes-on}
-use Rattle.writer.specs.Writing.{row24, writeTable, answerOf, nextOf, outputOf, nextPlace, frameWritten, laidField, laidPointer, Ready}
+use Rattle.writer.specs.Laying.{idlePacket, leftOverAfter, nothingOf, runPart}
+use Rattle.writer.specs.Theorems.{Number-exactly, Written-exactly, Refused-untouched, Written-opens, Laid-well, idleValue, Idle-packet-laid, Goes-on}
+use Rattle.writer.specs.Inside.{Ready}
+use Rattle.writer.specs.Writing.{row24, writeTable, answerOf, nextOf, outputOf, nextPlace, frameWritten, laidField, laidPointer}
 use Rattle.writer.proofs.FieldLaws.{points-well, nothing-exactly, left-then}
 use Rattle.writer.proofs.FrameLaws.{around, closed-around}
 use Rattle.writer.proofs.LayingLaws.{length-field, length-run}
@@ -107,3 +112,20 @@ goes-on u channel p w run out e =
       inside = inside;
       few-left = l .0;
     }
+
+-- the low 16 bits of a number have its last two octets
+low-two : (z : ℕ) → octetsOf 2 (z % 65536) ≡ octetsOf 2 z
+unfolding octetsOf
+low-two z = ap₂ (λ (x y : ℕ). x ∷ y ∷ []) (omega arith) (omega arith)
+
+idle-header : (n : ℕ) → laidOut packetHeader (idleValue n) ≡ (0x07 ∷ 0xFF ∷ 0xC0 ∷ 0x00 ∷ []) ++ octetsOf 2 (n - 7)
+unfolding laidOut octetsIn bitsTogether numbered
+idle-header n =
+    let z : ℕ = n - 7 in
+    let four : octetsOf 4 0x07FFC000 ≡ 0x07 ∷ 0xFF ∷ 0xC0 ∷ 0x00 ∷ [] = unfold octetsOf in refl in
+    sym (octets-append 4 2 0x07FFC000 (z % 65536) (omega arith))
+    ∙ ap₂ (λ (x y : List ℕ). x ++ y) four (low-two z)
+
+pub idle-packet-laid : Idle-packet-laid
+unfolding idlePacket
+idle-packet-laid n = ap (λ (h : List ℕ). h ++ replicate (n - 6) 0x55) (sym (idle-header n))

@@ -7,22 +7,22 @@ use mathlib.Core.Logic.{_⊎_, inl, inr}
 use Prim.Native.Nat.{ℕ, _≤_, _<_}
 use lib.Dec.{eqb, ltb}
 use lib.ListN.{length}
-use borrow.Author.Tests.{eq-eqb, ne-eqb, lt-ltb, le-ltb, not-false, ltb-true, ltb-false, eqb-true}
+use borrow.Author.Tests.{eq-eqb, ne-eqb, lt-ltb, le-ltb, not-false, ltb-false, eqb-true}
 use Rattle.packet.specs.Chain.{chainOf}
-use Rattle.frame.specs.Closing.{row20, row25}
-use Rattle.frame.specs.Opening.{row1}
 use Rattle.frame.specs.SetUp.{fitsOf}
-use Rattle.frame.specs.Table.{First, None}
+use Rattle.table.specs.Table.{First, None}
 use Rattle.frame.specs.declared.closing.ControlWord.{ControlWord}
 use Rattle.frame.specs.declared.set_up.SetUp.{SetUp}
-use Rattle.frame.proofs.TableLaws.{first-gives, none-gives}
+use Rattle.frame.proofs.Laws.{row1-fits, row20-exactly, row25-exactly}
+use Rattle.table.proofs.Laws.{first-gives, none-gives}
 use Rattle.writer.specs.declared.writing.Answer.{Answer}
 use Rattle.writer.specs.declared.writing.Answer.the-variants.{Refused, Frame}
 use Rattle.writer.specs.declared.writing.Place.{Place}
 use Rattle.writer.specs.declared.writing.Refusal.{Refusal}
 use Rattle.writer.specs.declared.writing.Refusal.the-variants.{SetUpRange, ChannelAbove, RunLength, NotAChain, OffsetPast, LeftOver, OutputLength}
 use Rattle.writer.specs.declared.writing.Written.{Written}
-use Rattle.writer.specs.Writing.{row21, row22, row23, row24, writeTable, answerOf, nextOf, outputOf, nextPlace, frameWritten, Ready, Wrote, WroteBy}
+use Rattle.writer.specs.Inside.{Ready, WroteBy}
+use Rattle.writer.specs.Writing.{row21, row22, row23, row24, writeTable, answerOf, nextOf, outputOf, nextPlace, frameWritten, Wrote}
 
 or-none : (a b : Bool) → a || b ≡ false → (a ≡ false) × (b ≡ false)
 or-none true b e = (e, cc)
@@ -74,40 +74,40 @@ module _ (end offset left : ℕ) where
 -- the first cause
 module _ (u : SetUp) (channel : ℕ) (p : Place) (run out : List ℕ) where
   pub outside : fitsOf u ≡ false → First (writeTable u channel p run out) SetUpRange
-  unfolding writeTable row1
-  outside a = inl (refl, rw a)
+  unfolding writeTable
+  outside a = inl (refl, row1-fits u .0 .1 a)
 
   module _ (a : fitsOf u ≡ true) where
     pub above : 8 ≤ channel → First (writeTable u channel p run out) ChannelAbove
-    unfolding writeTable row1 row20
-    above b = inr (rw a, inl (refl, rw (le-ltb channel 8 b)))
+    unfolding writeTable
+    above b = inr (row1-fits u .1 .1 a, inl (refl, row20-exactly channel .0 .1 b))
 
     module _ (b : channel < 8) where
       pub too-long : 65536 < length run → First (writeTable u channel p run out) RunLength
-      unfolding writeTable row1 row20 row21
-      too-long c = inr (rw a, inr (rw (lt-ltb channel 8 b), inl (refl, lt-ltb 65536 (length run) c)))
+      unfolding writeTable row21
+      too-long c = inr (row1-fits u .1 .1 a, inr (row20-exactly channel .1 .1 b, inl (refl, lt-ltb 65536 (length run) c)))
 
       module _ (c : length run ≤ 65536) where
         pub no-chain : chainOf run ≡ false → First (writeTable u channel p run out) NotAChain
-        unfolding writeTable row1 row20 row21 row22
-        no-chain d = inr (rw a, inr (rw (lt-ltb channel 8 b), inr (le-ltb 65536 (length run) c, inl (refl, rw d))))
+        unfolding writeTable row21 row22
+        no-chain d = inr (row1-fits u .1 .1 a, inr (row20-exactly channel .1 .1 b, inr (le-ltb 65536 (length run) c, inl (refl, rw d))))
 
         module _ (d : chainOf run ≡ true) where
           pub past : length run < p .offset → First (writeTable u channel p run out) OffsetPast
-          unfolding writeTable row1 row20 row21 row22 row23
-          past e = inr (rw a, inr (rw (lt-ltb channel 8 b), inr (le-ltb 65536 (length run) c, inr (rw d, inl (refl, lt-ltb (length run) (p .offset) e)))))
+          unfolding writeTable row21 row22 row23
+          past e = inr (row1-fits u .1 .1 a, inr (row20-exactly channel .1 .1 b, inr (le-ltb 65536 (length run) c, inr (rw d, inl (refl, lt-ltb (length run) (p .offset) e)))))
 
           module _ (e : p .offset ≤ length run) where
             pub bad-left : row24 (length run) (p .offset) (p .«left_over») ≡ true → First (writeTable u channel p run out) LeftOver
-            unfolding writeTable row1 row20 row21 row22 row23
+            unfolding writeTable row21 row22 row23
             bad-left f =
-                inr (rw a, inr (rw (lt-ltb channel 8 b), inr (le-ltb 65536 (length run) c, inr (rw d, inr (le-ltb (length run) (p .offset) e, inl (refl, f))))))
+                inr (row1-fits u .1 .1 a, inr (row20-exactly channel .1 .1 b, inr (le-ltb 65536 (length run) c, inr (rw d, inr (le-ltb (length run) (p .offset) e, inl (refl, f))))))
 
             module _ (f : row24 (length run) (p .offset) (p .«left_over») ≡ false) where
               pub other-length : (length out ≡ u .length → ⊥) → First (writeTable u channel p run out) OutputLength
-              unfolding writeTable row1 row20 row21 row22 row23 row25
+              unfolding writeTable row21 row22 row23
               other-length g =
-                  inr (rw a, inr (rw (lt-ltb channel 8 b), inr (le-ltb 65536 (length run) c, inr (rw d, inr (le-ltb (length run) (p .offset) e, inr (f, inl (refl, rw (ne-eqb (length out) (u .length) g))))))))
+                  inr (row1-fits u .1 .1 a, inr (row20-exactly channel .1 .1 b, inr (le-ltb 65536 (length run) c, inr (rw d, inr (le-ltb (length run) (p .offset) e, inr (f, inl (refl, row25-exactly u out .0 .1 g)))))))
 
               pub ready : length out ≡ u .length → Ready u channel p run out
               ready g =
@@ -122,16 +122,16 @@ module _ (u : SetUp) (channel : ℕ) (p : Place) (run out : List ℕ) where
                   }
 
               pub passed : length out ≡ u .length → None (writeTable u channel p run out)
-              unfolding writeTable row1 row20 row21 row22 row23 row25
-              passed g = (rw a, (rw (lt-ltb channel 8 b), (le-ltb 65536 (length run) c, (rw d, (le-ltb (length run) (p .offset) e, (f, (rw (eq-eqb (length out) (u .length) g), tt)))))))
+              unfolding writeTable row21 row22 row23
+              passed g = (row1-fits u .1 .1 a, (row20-exactly channel .1 .1 b, (le-ltb 65536 (length run) c, (rw d, (le-ltb (length run) (p .offset) e, (f, (row25-exactly u out .1 .1 g, tt)))))))
 
   -- what holds where no cause does
   pub passing : None (writeTable u channel p run out) → Ready u channel p run out × (row24 (length run) (p .offset) (p .«left_over») ≡ false)
-  unfolding writeTable row1 row20 row21 row22 row23 row25
+  unfolding writeTable row21 row22 row23
   passing n = (
-    ready (not-false _ (n .0)) (ltb-true channel 8 (not-false _ (n .1 .0))) (ltb-false 65536 (length run) (n .1 .1 .0))
+    ready (row1-fits u .1 .0 (n .0)) (row20-exactly channel .1 .0 (n .1 .0)) (ltb-false 65536 (length run) (n .1 .1 .0))
         (not-false _ (n .1 .1 .1 .0)) (ltb-false (length run) (p .offset) (n .1 .1 .1 .1 .0)) (n .1 .1 .1 .1 .1 .0)
-        (eqb-true (length out) (u .length) (not-false _ (n .1 .1 .1 .1 .1 .1 .0))),
+        (row25-exactly u out .1 .0 (n .1 .1 .1 .1 .1 .1 .0)),
     n .1 .1 .1 .1 .1 .0,
   )
 

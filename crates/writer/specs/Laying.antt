@@ -6,6 +6,7 @@ use lib.Dec.{eqb, ltb, leb}
 use lib.ListN.{length, take, drop, replicate}
 use Rattle.octets.specs.Numbers.{octetsOf}
 use Rattle.octets.specs.Pick.{pick}
+use Rattle.packet.specs.Header.{lengthBias}
 use Rattle.packet.specs.Size.{least}
 use Rattle.frame.specs.Opening.{idleData, noneStarts}
 
@@ -15,7 +16,7 @@ mostLeft = least - 1
 
 -- "An idle packet has header 07 FF C0 00, its length, and octets 55."
 unfoldable pub idlePacket : ℕ → List ℕ
-idlePacket n = (0x07 ∷ 0xFF ∷ 0xC0 ∷ 0x00 ∷ []) ++ octetsOf 2 (n - 7) ++ replicate (n - 6) 0x55
+idlePacket n = (0x07 ∷ 0xFF ∷ 0xC0 ∷ 0x00 ∷ []) ++ octetsOf 2 (n - lengthBias) ++ replicate (n - 6) 0x55
 
 -- "the idle packet 07 FF C0 00 00 00 55"
 abbrev pub shortIdle : List ℕ

@@ -1,4 +1,5 @@
 pub mod Answers
+pub mod Inside
 pub mod Laying
 pub mod Theorems
 pub mod Writing

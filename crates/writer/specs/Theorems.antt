@@ -1,13 +1,15 @@
 -- What is proved of a writing besides the functions' contracts. The proofs are in proofs/Laws.antt, under these names in lower case.
 use mathlib.Core.Path.{_≡_}
 use mathlib.Core.Bool.{true, false}
-use mathlib.Core.List.{List, []}
+use mathlib.Core.List.{List, [], _++_}
 use mathlib.Core.Logic.{_↔_}
-use Prim.Native.Nat.{ℕ, _^_, _≤_, _<_}
-use lib.ListN.{length, getD, take, drop}
+use Prim.Native.Nat.{ℕ, _-_, _^_, _≤_, _<_}
+use lib.ListN.{length, getD, take, drop, replicate}
+use Rattle.octets.specs.Layout.{laidOut}
 use Rattle.frame.specs.Closing.{closeSize, flaggedBy}
 use Rattle.frame.specs.Opening.{openOf}
-use Rattle.frame.specs.Table.{First, None}
+use Rattle.packet.specs.Header.{PacketItem, packetHeader, lengthBias, idleApplication}
+use Rattle.table.specs.Table.{First, None}
 use Rattle.frame.specs.Theorems.{Points, wordNumber}
 use Rattle.frame.specs.declared.closing.ControlWord.{ControlWord}
 use Rattle.frame.specs.declared.opening.Opened.{Opened}
@@ -16,7 +18,7 @@ use Rattle.writer.specs.declared.writing.Answer.the-variants.{Refused, F
 use Rattle.writer.specs.declared.writing.Place.{Place}
 use Rattle.writer.specs.declared.writing.Refusal.{Refusal}
 use Rattle.writer.specs.Answers.{numberOf, valuesOf}
-use Rattle.writer.specs.Laying.{mostLeft, nothingOf, placedPart}
+use Rattle.writer.specs.Laying.{idlePacket, mostLeft, nothingOf, placedPart}
 use Rattle.writer.specs.Writing.{writeTable, answerOf, nextOf, nextPlace, outputOf, frameWritten, laidField, laidPointer}
 
 -- a number is given exactly when its cause holds and no earlier one does
@@ -67,6 +69,20 @@ pub record LaidWell (u : SetUp) (p : Place) (w : ControlWord) (run : List ℕ) :
 
 abbrev pub Laid-well : Type 0
 Laid-well = (u : SetUp) (channel : ℕ) (p : Place) (w : ControlWord) (run out : List ℕ) → answerOf u channel p run out ≡ Frame → LaidWell u p w run
+
+-- the value of each item of an idle packet's header: application id 2047, grouping flags 11, the length field, all else 0
+abbrev pub idleValue : ℕ → PacketItem → ℕ
+idleValue n PacketItem.version = 0
+idleValue n PacketItem.typeBit = 0
+idleValue n PacketItem.secondaryFlag = 0
+idleValue n PacketItem.applicationId = idleApplication
+idleValue n PacketItem.groupingFlags = 3
+idleValue n PacketItem.sequenceCount = 0
+idleValue n PacketItem.lengthField = n - lengthBias
+
+-- "header 07 FF C0 00, its length, and octets 55": these octets are that header, in the one layout of a packet header
+abbrev pub Idle-packet-laid : Type 0
+Idle-packet-laid = (n : ℕ) → idlePacket n ≡ laidOut packetHeader (idleValue n) ++ replicate (n - 6) 0x55
 
 -- the next call may be given what this one returned
 pub record GoesOn (u : SetUp) (channel : ℕ) (p : Place) (w : ControlWord) (run out : List ℕ) : Type 0 where

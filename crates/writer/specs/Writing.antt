@@ -1,16 +1,15 @@
 -- Writing one frame: the table of refusals (01, "When the desk says no", "Writing, in order") and what one call answers and leaves.
-use mathlib.Core.Bool.{Bool, true, not, _&&_, _||_}
+use mathlib.Core.Bool.{Bool, not, _&&_, _||_}
 use mathlib.Core.List.{List, [], _∷_}
 use mathlib.Core.Path.{_≡_}
-use Prim.Native.Nat.{ℕ, _+_, _≤_, _<_}
+use Prim.Native.Nat.{ℕ, _+_}
 use lib.Dec.{eqb, ltb}
 use lib.ListN.{length}
 use Rattle.packet.specs.Chain.{chainOf, distanceOf}
-use Rattle.frame.specs.Closing.{channels, closeSize, frameAround, row20, row25}
+use Rattle.frame.specs.Closing.{closeSize, frameAround, row20, row25}
 use Rattle.frame.specs.Counts.{after}
 use Rattle.frame.specs.Opening.{row1}
-use Rattle.frame.specs.SetUp.{fitsOf}
-use Rattle.frame.specs.Table.{Row, row, firstCause}
+use Rattle.table.specs.Table.{Row, row, firstCause}
 use Rattle.frame.specs.declared.closing.ControlWord.{ControlWord}
 use Rattle.frame.specs.declared.set_up.SetUp.{SetUp}
 use Rattle.writer.specs.declared.writing.Answer.{Answer}
@@ -83,19 +82,3 @@ pub record Wrote (u : SetUp) (channel : ℕ) (p : Place) (w : ControlWord) (run 
   pub answers : answer ≡ answerOf u channel p run out
   pub goes-on : next ≡ nextOf u channel p w run out
   pub output-left : out′ ≡ outputOf u channel p w run out
-
--- the same of a call that passed all tests
-pub record WroteBy (u : SetUp) (channel : ℕ) (p : Place) (w : ControlWord) (run : List ℕ) (answer : Answer) (next : Place) (out′ : List ℕ) : Type 0 where
-  pub answers : answer ≡ Frame
-  pub goes-on : next ≡ nextPlace u p w run
-  pub output-left : out′ ≡ frameWritten u channel p w run
-
--- what the frame's writing may rely on
-pub record Ready (u : SetUp) (channel : ℕ) (p : Place) (run out : List ℕ) : Type 0 where
-  pub fits : fitsOf u ≡ true
-  pub channel-fits : channel < channels
-  pub run-fits : length run ≤ mostRun
-  pub chain : chainOf run ≡ true
-  pub inside : p .offset ≤ length run
-  pub left-fits : p .«left_over» ≤ mostLeft
-  pub output-whole : length out ≡ u .length

@@ -1,7 +1,7 @@
 use packet::Packet;
 ghost use mathlib.Core.Path.{_≡_};
 ghost use Prim.Native.Nat.{_+_, _-_, _≤_, _<_, min};
-ghost use lib.ListN.{length, take, drop};
+ghost use lib.ListN.{length};
 ghost use Rattle.octets.specs.Laid.{laid};
 ghost use Rattle.packet.specs.Size.{least};
 ghost use Rattle.frame.specs.SetUp.{mostField};
@@ -26,7 +26,7 @@ fn lay_left_over(field: &mut [u8], left_over: usize) -> usize
     ensures field { λ _. ⌜ now (field .exit) ≡ laid (now (field .entry)) 0 (leftPart (length (now (field .entry))) «left_over») ⌝ }
 {
     let idle = SHORT_IDLE;
-    let n = octets::least(left_over, field.len());
+    let n = octets::lesser(left_over, field.len());
     let from = Packet::MIN - left_over;
     octets::copy(field, 0, &idle[from..from + n]);
     n
@@ -38,7 +38,7 @@ fn lay_idle_packet(field: &mut [u8], at: usize, n: usize)
     ensures { λ _. ⌜ now (field .exit) ≡ laid (now (field .entry)) at (idlePacket n) ⌝ }
 {
     octets::put32(field, at, 0x07FF_C000);
-    octets::put16(field, at + 4, n - Packet::MIN);
+    octets::put16(field, at + 4, n - Packet::LENGTH_BIAS);
     octets::fill(field, at + Packet::HEADER, n - Packet::HEADER, FILL);
 }
 
@@ -72,7 +72,7 @@ pub fn lay(field: &mut [u8], run: &[u8], offset: usize, left_over: usize) -> Lai
     ensures field { λ _. ⌜ now (field .exit) ≡ fieldOf (length (now (field .entry))) (now (run .entry)) offset «left_over» ⌝ }
 {
     let placed = lay_left_over(field, left_over);
-    let n = octets::least(run.len() - offset, field.len() - placed);
+    let n = octets::lesser(run.len() - offset, field.len() - placed);
     let next = offset + n;
     octets::copy(field, placed, &run[offset..next]);
     let end = placed + n;

@@ -8,7 +8,8 @@ use frame::SetUp;
 use packet::Packet;
 ghost use mathlib.Core.Path.{_≡_};
 ghost use Rattle.writer.specs.Answers.{numberOf};
-ghost use Rattle.writer.specs.Writing.{Ready, Wrote, WroteBy, row24};
+ghost use Rattle.writer.specs.Inside.{Ready, WroteBy};
+ghost use Rattle.writer.specs.Writing.{Wrote, row24};
 
 // The limit of a run of packets, in octets.
 pub struct Run;

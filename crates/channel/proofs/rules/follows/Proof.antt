@@ -3,12 +3,12 @@
 use Prim.Native.Nat.{_-_, _≤_}
 use mathlib.Core.Path.{_≡_, refl, _∙_, sym}
 use native.Mathlib.Omega.{arith}
-use lib.ListN.{length, drop, length-take, length-drop}
+use lib.ListN.{length, drop}
 use borrow.Author.Needs.{needs}
 use borrow.Author.Tests.{not-true, not-false}
 use Rattle.packet.specs.Size.{most, source}
 use Rattle.channel.specs.Rules.{recordFollows, allFollow}
-use Rattle.channel.specs.Store.{placeOf}
+use Rattle.channel.specs.Store.{partPlace}
 use Rattle.channel.proofs.ListLaws.{length-any}
 use Rattle.channel.proofs.RuleLaws.{follow-end, follow-next, follow-stop}
 use Rattle.channel.proofs.rules.follows.Statement.{statement}
@@ -29,9 +29,15 @@ loop-holds c =
 place-requires : tie.Need-place-requires Inv-loop μ-loop
 place-requires c κs = search needs
 
-add-end : tie.Need-add-end Inv-loop μ-loop
-unfolding placeOf
-add-end c = omega arith
+lesser-requires : tie.Need-lesser-requires Inv-loop μ-loop
+lesser-requires c κs = search needs
+
+add-lesser : tie.Need-add-lesser Inv-loop μ-loop
+unfolding partPlace
+add-lesser c = omega arith
+
+lesser-requires-2 : tie.Need-lesser-requires-2 Inv-loop μ-loop
+lesser-requires-2 c κs = search needs
 
 mul-channel : tie.Need-mul-channel Inv-loop μ-loop
 mul-channel c = search needs
@@ -46,17 +52,16 @@ part-channel-follows-start : tie.Need-part-channel-follows-start Inv-loop μ-loo
 part-channel-follows-start c = search needs
 
 part-channel-follows-end : tie.Need-part-channel-follows-end Inv-loop μ-loop
-unfolding placeOf
 part-channel-follows-end c = omega arith
 
 channel-follows-requires : tie.Need-channel-follows-requires Inv-loop μ-loop
-unfolding placeOf
-channel-follows-requires c κs = simp (length-take, length-drop) (omega arith)
+channel-follows-requires c κs = search needs
 
 returns : tie.Need-returns Inv-loop μ-loop
-returns c = let l = c .before .before .before .before .before .before .loop in
-    let a = c .before .before .before .before .before .before .before .before .args in
-    sym (l .inv .2 ∙ follow-stop source most (a .store .now) (a .t1 .channels) (l .v) _ _ _ (omega arith) (c .before .before .before .before .place .ensures)
+returns c = let l = c .before .before .before .before .before .before .before .before .loop in
+    let a = c .before .before .before .before .before .before .before .before .before .before .args in
+    sym (l .inv .2 ∙ follow-stop source most (a .store .now) (a .t1 .channels) (l .v) _ _ _ _ _ (omega arith)
+    (c .before .before .before .before .before .before .place .ensures) (c .before .before .before .before .before .lesser .ensures) (c .before .before .before .before .lesser2 .ensures)
     (c .before .channel-follows .ensures) (not-true _ (c .if1 .taken)))
 
 add-v : tie.Need-add-v Inv-loop μ-loop
@@ -66,11 +71,12 @@ loop-less : tie.Need-loop-less Inv-loop μ-loop
 loop-less c = search needs
 
 loop-again : tie.Need-loop-again Inv-loop μ-loop
-loop-again c = let l = c .before .before .before .before .before .before .loop in
-    let a = c .before .before .before .before .before .before .before .before .args in (
+loop-again c = let l = c .before .before .before .before .before .before .before .before .loop in
+    let a = c .before .before .before .before .before .before .before .before .before .before .args in (
       l .inv .0,
       omega arith,
-      l .inv .2 ∙ follow-next source most (a .store .now) (a .t1 .channels) (l .v) _ _ _ (omega arith) (c .before .before .before .before .place .ensures)
+      l .inv .2 ∙ follow-next source most (a .store .now) (a .t1 .channels) (l .v) _ _ _ _ _ (omega arith)
+          (c .before .before .before .before .before .before .place .ensures) (c .before .before .before .before .before .lesser .ensures) (c .before .before .before .before .lesser2 .ensures)
           (c .before .channel-follows .ensures) (not-false _ (c .if1 .left)),
     )
 
@@ -87,7 +93,9 @@ follows-spec =
     μ-loop
     loop-holds
     place-requires
-    add-end
+    lesser-requires
+    add-lesser
+    lesser-requires-2
     mul-channel
     element-copy-out-channel
     sub-channel-follows

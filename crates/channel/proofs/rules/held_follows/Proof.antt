@@ -1,11 +1,17 @@
 -- `channel::held_follows` meets its contract: the size's variant decides, and of a total the two tests.
 -- Assumes nothing.
-use borrow.Author.Needs.{needs}
+use mathlib.Core.Path.{_≡_, _∙_}
 use native.Mathlib.Omega.{arith}
-use Rattle.channel.specs.Rules.{judged}
-use Rattle.channel.proofs.RuleLaws.{total-above, total-not-above}
+use borrow.Author.Needs.{needs}
+use Rattle.packet.specs.Size.{sizeOf}
+use Rattle.packet.specs.declared.source.Size.the-variants.{Total}
+use Rattle.packet.proofs.Laws.{fits-by-limit}
+use Rattle.channel.proofs.RuleLaws.{waits-keep, foreign-breaks, total-above, total-not-above}
 use Rattle.channel.proofs.rules.held_follows.Statement.{statement}
 use Rattle.channel.proofs.rules.held_follows.Tie as tie
+
+size-requires : tie.Need-size-requires
+size-requires c κs = search needs
 
 enum-told : tie.Need-enum-told
 enum-told c = search needs
@@ -13,24 +19,36 @@ enum-told c = search needs
 enum-told-2 : tie.Need-enum-told-2
 enum-told-2 c = search needs
 
-enum-known-size : tie.Need-enum-known-size
-enum-known-size c = search needs
+enum-known-total : tie.Need-enum-known-total
+enum-known-total c = search needs
+
+fits-requires : tie.Need-fits-requires
+fits-requires c κs = search needs
 
 returns : tie.Need-returns
-unfolding judged
-returns c = cc
+returns c = waits-keep _ _ (cc)
 
 returns-2 : tie.Need-returns-2
-unfolding judged
-returns-2 c = cc
+returns-2 c = foreign-breaks _ _ (cc)
 
 returns-3 : tie.Need-returns-3
-returns-3 c = total-above _ _ _ (c .before .before .size .given .1) (omega arith)
+returns-3 c = let n = c .before .before .before .total .given .0 .0 in
+    let t : sizeOf (c .before .before .before .before .before .before .before .args .held .now) ≡ Total n = cc in
+    c .fits2 .ensures ∙ fits-by-limit _ _ n t ∙ total-above _ _ n t (omega arith)
 
 returns-4 : tie.Need-returns-4
-returns-4 c = total-not-above _ _ _ (c .before .before .size .given .1) (omega arith)
+returns-4 c = total-not-above _ _ (c .before .before .total .given .0 .0) (cc) (omega arith)
 
 pub held-follows-spec : {M : Type 1} → statement M
 held-follows-spec =
     tie.close
-    (tie.spec enum-told enum-told-2 enum-known-size returns returns-2 returns-3 returns-4)
+    (tie.spec
+    size-requires
+    enum-told
+    enum-told-2
+    enum-known-total
+    fits-requires
+    returns
+    returns-2
+    returns-3
+    returns-4)

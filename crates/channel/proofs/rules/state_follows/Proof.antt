@@ -2,11 +2,10 @@
 -- Assumes nothing.
 use mathlib.Core.Path.{_∙_, sym, ap}
 use native.Mathlib.Omega.{arith}
-use lib.Seq.{length-take-le}
 use borrow.Author.Needs.{needs}
 use Rattle.packet.specs.Size.{most, source}
-use Rattle.channel.specs.Rules.{judged, stateFollows}
-use Rattle.channel.proofs.RuleLaws.{gathers-below, gathers-above, skips-none, skips-some}
+use Rattle.channel.specs.Rules.{stateFollows}
+use Rattle.channel.proofs.RuleLaws.{skips-none, skips-some}
 use Rattle.channel.proofs.rules.state_follows.Statement.{statement}
 use Rattle.channel.proofs.rules.state_follows.Tie as tie
 
@@ -16,14 +15,8 @@ enum-told c = search needs
 enum-known-state : tie.Need-enum-known-state
 enum-known-state c = search needs
 
-slice-aggregate-size : tie.Need-slice-aggregate-size
-slice-aggregate-size c = sym (length-take-le _ (c .before .before .before .before .before .before .args .part .now) (omega arith))
-
-size-requires : tie.Need-size-requires
-size-requires c κs = search needs
-
-held-follows-requires : tie.Need-held-follows-requires
-held-follows-requires c κs = search needs
+gathering-follows-requires : tie.Need-gathering-follows-requires
+gathering-follows-requires c κs = search needs
 
 enum-known-state-2 : tie.Need-enum-known-state-2
 enum-known-state-2 c = search needs
@@ -36,17 +29,13 @@ unfolding stateFollows
 returns c = cc
 
 returns-2 : tie.Need-returns-2
-returns-2 c = c .held-follows .ensures ∙ ap (judged most _) (c .before .size .ensures)
-    ∙ gathers-below source _ _ _ (c .before .before .before .before .before .state .given .1) (omega arith)
+returns-2 c = c .gathering-follows .ensures ∙ ap (stateFollows source most _) (sym (c .before .before .state .given .1))
 
 returns-3 : tie.Need-returns-3
-returns-3 c = gathers-above source _ _ _ (c .before .before .state .given .1) (omega arith)
+returns-3 c = skips-none source _ _ _ (c .before .before .state2 .given .1) (omega arith)
 
 returns-4 : tie.Need-returns-4
-returns-4 c = skips-none source _ _ _ (c .before .before .state2 .given .1) (omega arith)
-
-returns-5 : tie.Need-returns-5
-returns-5 c = skips-some source _ _ _ (c .before .before .state2 .given .1) (omega arith)
+returns-4 c = skips-some source _ _ _ (c .before .before .state2 .given .1) (omega arith)
 
 pub state-follows-spec : {M : Type 1} → statement M
 state-follows-spec =
@@ -54,13 +43,10 @@ state-follows-spec =
     (tie.spec
     enum-told
     enum-known-state
-    slice-aggregate-size
-    size-requires
-    held-follows-requires
+    gathering-follows-requires
     enum-known-state-2
     sub-result
     returns
     returns-2
     returns-3
-    returns-4
-    returns-5)
+    returns-4)

@@ -3,14 +3,14 @@
 use mathlib.Core.Path.{_≡_}
 use Prim.Native.Nat.{_≤_, _-_}
 use lib.ListN.{length, drop}
-use Rattle.desk.specs.Numbers.{digitsFrom, numberOf}
+use Rattle.desk.specs.Numbers.{digitsFrom, decimalOf}
 use Rattle.desk.proofs.Spelling.{no-word, from-start, not-a-digit, too-large, digit-more, no-more}
 use borrow.Author.Needs.{needs}
 use Rattle.desk.proofs.words.spelt.Statement.{statement}
 use Rattle.desk.proofs.words.spelt.Tie as tie
 
 abbrev Inv-loop : tie.InvT-loop
-Inv-loop word n₀ i₀ n i = (i ≤ length word) × (n ≤ 4294967295) × (digitsFrom n (drop i word) ≡ numberOf word)
+Inv-loop word n₀ i₀ n i = (i ≤ length word) × (n ≤ 4294967295) × (digitsFrom n (drop i word) ≡ decimalOf word)
 
 abbrev μ-loop : tie.MeasureT-loop
 μ-loop word n₀ i₀ n i = length word - i

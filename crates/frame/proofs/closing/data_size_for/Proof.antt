@@ -1,37 +1,21 @@
 -- `frame::data_size_for` meets its contract: D.
 -- Assumes nothing.
-use native.Mathlib.Omega.{arith}
-use Rattle.octets.proofs.Laws.{pick-le}
-use Rattle.frame.specs.Closing.{closeSize, flaggedBy}
-use Rattle.frame.proofs.ClosingLaws.{word-length}
+use mathlib.Core.Path.{_∙_, ap}
+use Rattle.frame.specs.Closing.{closeSize}
+use Rattle.frame.specs.Opening.{dataSize}
 use borrow.Author.Needs.{needs}
 use Rattle.frame.proofs.closing.data_size_for.Statement.{statement}
 use Rattle.frame.proofs.closing.data_size_for.Tie as tie
 
-size-requires : tie.Need-size-requires
-size-requires c κs = search needs
+flagged-requires : tie.Need-flagged-requires
+flagged-requires c κs = search needs
 
-add-taken : tie.Need-add-taken
-add-taken c = omega (arith, word-length (c .before .args .word), pick-le (flaggedBy (c .before .args .word)) 4)
-
-if-present-requires : tie.Need-if-present-requires
-if-present-requires c κs = search needs
-
-add-taken-2 : tie.Need-add-taken-2
-add-taken-2 c = omega (arith, word-length (c .before .before .args .word), pick-le (flaggedBy (c .before .before .args .word)) 4, pick-le (c .before .before .args .set .«error_control») 2)
-
-sub-result : tie.Need-sub-result
-sub-result c = search needs
+data-size-requires : tie.Need-data-size-requires
+data-size-requires c κs = search needs
 
 returns : tie.Need-returns
 unfolding closeSize
-returns c = omega arith
-
-returns-2 : tie.Need-returns-2
-unfolding closeSize
-returns-2 c = omega arith
+returns c = c .data-size .ensures ∙ ap (dataSize _ 0) (c .before .flagged .ensures)
 
 pub data-size-for-spec : {M : Type 1} → statement M
-data-size-for-spec =
-    tie.close
-    (tie.spec size-requires add-taken if-present-requires add-taken-2 sub-result returns returns-2)
+data-size-for-spec = tie.close (tie.spec flagged-requires data-size-requires returns)

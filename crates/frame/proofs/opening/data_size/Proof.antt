@@ -14,13 +14,13 @@ if-present-requires : tie.Need-if-present-requires
 if-present-requires c κs = search needs
 
 add-taken-2 : tie.Need-add-taken-2
-add-taken-2 c = omega (arith, pick-le (c .before .args .h .flagged) 4)
+add-taken-2 c = omega (arith, pick-le (c .before .args .flagged) 4)
 
 if-present-requires-2 : tie.Need-if-present-requires-2
 if-present-requires-2 c κs = search needs
 
 add-taken-3 : tie.Need-add-taken-3
-add-taken-3 c = omega (arith, pick-le (c .before .before .args .h .flagged) 4, pick-le (c .before .before .args .set .«error_control») 2)
+add-taken-3 c = omega (arith, pick-le (c .before .before .args .flagged) 4, pick-le (c .before .before .args .set .«error_control») 2)
 
 sub-result : tie.Need-sub-result
 sub-result c = search needs

@@ -14,24 +14,24 @@ other-version-requires c κs = omega (arith, in-range _ .0 (c .before .pre .0))
 returns : tie.Need-returns
 returns c = wrong-version _ _ (sym (c .before .other-version .ensures) ∙ c .if1 .taken)
 
-of-requires : tie.Need-of-requires
-of-requires c κs = omega (arith, in-range _ .0 (c .before .before .before .pre .0))
+header-of-requires : tie.Need-header-of-requires
+header-of-requires c κs = omega (arith, in-range _ .0 (c .before .before .before .pre .0))
 
 returns-2 : tie.Need-returns-2
-returns-2 c = wrong-spacecraft _ _ _ (c .before .before .before .of .ensures) (sym (c .before .before .before .before .before .other-version .ensures) ∙ c .before .before .before .before .if1 .left) (c .if2 .taken)
+returns-2 c = wrong-spacecraft _ _ _ (c .before .before .before .header-of .ensures) (sym (c .before .before .before .before .before .other-version .ensures) ∙ c .before .before .before .before .if1 .left) (c .if2 .taken)
 
 bad-secondary-requires : tie.Need-bad-secondary-requires
 bad-secondary-requires c κs = omega (arith, in-range _ .0 (c .before .before .before .before .before .before .before .pre .0))
 
 returns-3 : tie.Need-returns-3
-returns-3 c = wrong-secondary _ _ _ (c .before .before .before .before .before .of .ensures) (sym (c .before .before .before .before .before .before .before .other-version .ensures) ∙ c .before .before .before .before .before .before .if1 .left) (c .before .before .if2 .left) (sym (c .before .bad-secondary .ensures) ∙ c .if3 .taken)
+returns-3 c = wrong-secondary _ _ _ (c .before .before .before .before .before .header-of .ensures) (sym (c .before .before .before .before .before .before .before .other-version .ensures) ∙ c .before .before .before .before .before .before .if1 .left) (c .before .before .if2 .left) (sym (c .before .bad-secondary .ensures) ∙ c .if3 .taken)
 
 open-data-requires : tie.Need-open-data-requires
 open-data-requires c κs = search needs
 
 returns-4 : tie.Need-returns-4
 returns-4 c = c .open-data .ensures
-    ∙ right-header _ _ _ (c .before .before .before .before .before .before .of .ensures) (sym (c .before .before .before .before .before .before .before .before .other-version .ensures) ∙ c .before .before .before .before .before .before .before .if1 .left) (c .before .before .before .if2 .left) (sym (c .before .before .bad-secondary .ensures) ∙ c .before .if3 .left)
+    ∙ right-header _ _ _ (c .before .before .before .before .before .before .header-of .ensures) (sym (c .before .before .before .before .before .before .before .before .other-version .ensures) ∙ c .before .before .before .before .before .before .before .if1 .left) (c .before .before .before .if2 .left) (sym (c .before .before .bad-secondary .ensures) ∙ c .before .if3 .left)
 
 pub open-header-spec : {M : Type 1} → statement M
 open-header-spec =
@@ -39,7 +39,7 @@ open-header-spec =
     (tie.spec
     other-version-requires
     returns
-    of-requires
+    header-of-requires
     returns-2
     bad-secondary-requires
     returns-3

@@ -3,10 +3,8 @@
 use Rattle.frame.specs.Header.{versionOf}
 use Rattle.frame.specs.Opening.{row7}
 use mathlib.Core.Path.{_≡_}
-use Prim.Native.Nat.{_/_, _<_}
+use Prim.Native.Nat.{_/_}
 use native.Mathlib.Omega.{arith}
-use Rattle.octets.specs.Numbers.{numberAt}
-use Rattle.octets.proofs.Laws.{number-two}
 use Rattle.frame.proofs.HeaderLaws.{version-is}
 use borrow.Author.Needs.{needs}
 use Rattle.frame.proofs.opening.other_version.Statement.{statement}
@@ -19,9 +17,7 @@ returns : tie.Need-returns
 unfolding row7
 returns c = let f = c .before .before .args .frame .now in
     let g = c .before .shared-slice-known .given in
-    let b : numberAt f 2 2 < 65536 = omega (arith, g 2, g 3, number-two f 2) in
-    let z : numberAt f 4 2 < 65536 = omega (arith, g 4, g 5, number-two f 4) in
-    let e : c .number16 .result / 16384 ≡ versionOf f = omega (arith, version-is f b z) in
+    let e : c .number16 .result / 16384 ≡ versionOf f = omega (arith, version-is f (λ i. omega (arith, g i))) in
     rw e
 
 pub other-version-spec : {M : Type 1} → statement M

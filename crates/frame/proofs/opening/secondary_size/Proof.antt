@@ -2,9 +2,10 @@
 -- Assumes nothing.
 use mathlib.Core.Path.{_≡_}
 use Prim.Native.Nat.{_+_, _%_}
-use Rattle.octets.specs.Numbers.{bitsAt}
+use Rattle.octets.specs.Layout.{valueIn}
 use Rattle.frame.proofs.HeaderLaws.{secondary-length-is}
 use native.Mathlib.Omega.{arith}
+use Rattle.frame.specs.Header.{secondaryHeader, lengthLessOne}
 use Rattle.frame.specs.Opening.{secondarySize}
 use borrow.Author.Needs.{needs}
 use Rattle.frame.proofs.opening.secondary_size.Statement.{statement}
@@ -19,7 +20,7 @@ add-result c = search needs
 returns : tie.Need-returns
 unfolding secondarySize
 returns c = let f = c .before .before .before .args .frame .now in
-    let e : c .octet .result % 64 + 1 ≡ bitsAt f 6 1 2 6 + 1 = omega (arith, secondary-length-is f) in
+    let e : c .octet .result % 64 + 1 ≡ valueIn secondaryHeader f 6 lengthLessOne + 1 = omega (arith, secondary-length-is f) in
     (cc, omega arith)
 
 returns-2 : tie.Need-returns-2

@@ -17,11 +17,11 @@ Inv-loop answer₀ words n i₀ answer i =
 abbrev μ-loop : tie.MeasureT-loop
 μ-loop answer₀ words n i₀ answer i = n - i
 
-least-requires : tie.Need-least-requires Inv-loop μ-loop
-least-requires c κs = search needs
+lesser-requires : tie.Need-lesser-requires Inv-loop μ-loop
+lesser-requires c κs = search needs
 
 loop-holds : tie.Need-loop-holds Inv-loop μ-loop
-loop-holds c = (c .least .ensures, omega arith, refl, refl)
+loop-holds c = (c .lesser .ensures, omega arith, refl, refl)
 
 mul-answer : tie.Need-mul-answer Inv-loop μ-loop
 mul-answer c = search needs
@@ -64,7 +64,7 @@ lay-spec =
     (tie.spec
     Inv-loop
     μ-loop
-    least-requires
+    lesser-requires
     loop-holds
     mul-answer
     shared-slice-read-answer

@@ -1,7 +1,7 @@
 -- `reader::accept` meets its contract: the steps over the channel's part of the store are those of the whole call.
 -- Assumes nothing.
 use native.Mathlib.Omega.{arith}
-use Rattle.channel.specs.Store.{placeOf}
+use Rattle.channel.specs.Store.{partPlace}
 use Rattle.reader.proofs.AcceptLaws.{fits-cut, follows-cut, read-by}
 use borrow.Author.Needs.{needs}
 use Rattle.reader.proofs.reading.accept.Statement.{statement}
@@ -20,7 +20,7 @@ place-requires : tie.Need-place-requires
 place-requires c κs = search needs
 
 add-end : tie.Need-add-end
-unfolding placeOf
+unfolding partPlace
 add-end c = omega arith
 
 gap-for-requires : tie.Need-gap-for-requires
@@ -42,7 +42,7 @@ part-steps-start-2 : tie.Need-part-steps-start-2
 part-steps-start-2 c = search needs
 
 part-steps-end-2 : tie.Need-part-steps-end-2
-unfolding placeOf
+unfolding partPlace
 part-steps-end-2 c = omega arith
 
 steps-requires : tie.Need-steps-requires

@@ -8,11 +8,11 @@ use lib.ListN.{length}
 use Rattle.packet.specs.Size.{most, source}
 use Rattle.frame.specs.Opening.{frameOf}
 use Rattle.frame.specs.SetUp.{fitsOf}
-use Rattle.frame.specs.Table.{None}
+use Rattle.table.specs.Table.{None}
 use Rattle.channel.specs.Rules.{recordFollows}
 use Rattle.channel.specs.Store.{storeFits, outputFits}
 use Rattle.reader.specs.Reading.{readTable}
-use Rattle.reader.proofs.ReadLaws.{at-set-up, at-store, at-output, at-record, at-frame, at-none, whole-store, refuses, accepts, ready}
+use Rattle.reader.proofs.ReadLaws.{at-set-up, at-store, at-output, at-record, at-frame, at-none, refuses, accepts, ready}
 use Rattle.reader.proofs.reading.read_core.Statement.{statement}
 use Rattle.reader.proofs.reading.read_core.Tie as tie
 
@@ -88,7 +88,7 @@ returns-3 c =
     (c .refused3 .ensures)
 
 follows-requires : tie.Need-follows-requires
-follows-requires c κs = whole-store most _ (store-fits (c .before .before .before))
+follows-requires c κs = search needs
 
 refused-requires-4 : tie.Need-refused-requires-4
 refused-requires-4 c κs = search needs

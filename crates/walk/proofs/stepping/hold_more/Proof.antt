@@ -2,7 +2,7 @@
 -- Assumes nothing.
 use mathlib.Core.Path.{_∙_}
 use native.Mathlib.Omega.{arith}
-use Rattle.walk.specs.Steps.{courseBy}
+use Rattle.walk.specs.Inside.{courseBy}
 use Rattle.walk.proofs.GatherLaws.{laid-more}
 use borrow.Author.Needs.{needs}
 use Rattle.walk.proofs.stepping.hold_more.Statement.{statement}

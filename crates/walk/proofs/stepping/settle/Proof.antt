@@ -3,7 +3,7 @@
 use mathlib.Core.Path.{_≡_, sym}
 use Rattle.octets.proofs.Runs.{laid-nil}
 use Rattle.walk.specs.declared.walking.End.{End}
-use Rattle.walk.specs.Steps.{CutFits, courseBy, heldBy}
+use Rattle.walk.specs.Inside.{CutFits, courseBy, heldBy}
 use borrow.Author.Needs.{needs}
 use Rattle.walk.proofs.stepping.settle.Statement.{statement}
 use Rattle.walk.proofs.stepping.settle.Tie as tie

@@ -1,6 +1,11 @@
 -- `walk::look` meets its contract: what the size and the tests say of the front.
 -- Assumes nothing.
-use Rattle.packet.specs.Size.{source}
+use mathlib.Core.Path.{_≡_}
+use native.Mathlib.Omega.{arith}
+use borrow.Author.Tests.{not-true, not-false}
+use Rattle.packet.specs.Size.{sizeOf, source}
+use Rattle.packet.specs.declared.source.Size.the-variants.{Total}
+use Rattle.walk.proofs.GatherLaws.{too-long, not-too-long}
 use Rattle.walk.proofs.WalkLaws.{sees-foreign, sees-end, sees-few, sees-oversize, sees-packet, sees-cut}
 use borrow.Author.Needs.{needs}
 use Rattle.walk.proofs.walking.look.Statement.{statement}
@@ -18,8 +23,15 @@ enum-told-2 c = search needs
 enum-known-total : tie.Need-enum-known-total
 enum-known-total c = search needs
 
-sub-t14 : tie.Need-sub-t14
-sub-t14 c = search needs
+fits-within-requires : tie.Need-fits-within-requires
+fits-within-requires c κs = search needs
+
+sub-t15 : tie.Need-sub-t15
+sub-t15 c = let f = c .before in
+    let n = f .before .before .total .given .0 .0 in
+    let p = f .before .before .before .before .before .before .args .seen .now in
+    let t : sizeOf p ≡ Total n = cc in
+    omega (arith, too-long _ p n t (f .fits-within .ensures) (not-true _ (c .if2 .taken)))
 
 returns : tie.Need-returns
 returns c = sees-foreign source _ _ (cc)
@@ -31,13 +43,25 @@ returns-3 : tie.Need-returns-3
 returns-3 c = sees-few source _ _ (cc) (c .if1 .left)
 
 returns-4 : tie.Need-returns-4
-returns-4 c = sees-oversize source _ _ _ (cc) (c .if2 .taken)
+returns-4 c = let f = c .before in
+    let n = f .before .before .total .given .0 .0 in
+    let p = f .before .before .before .before .before .before .args .seen .now in
+    let t : sizeOf p ≡ Total n = cc in
+    sees-oversize source _ _ _ t (too-long _ p n t (f .fits-within .ensures) (not-true _ (c .if2 .taken)))
 
 returns-5 : tie.Need-returns-5
-returns-5 c = sees-packet source _ _ _ (cc) (search needs) (search needs)
+returns-5 c = let f = c .before .before in
+    let n = f .before .before .total .given .0 .0 in
+    let p = f .before .before .before .before .before .before .args .seen .now in
+    let t : sizeOf p ≡ Total n = cc in
+    sees-packet source _ _ _ t (not-too-long _ p n t (f .fits-within .ensures) (not-false _ (c .before .if2 .left))) (search needs)
 
 returns-6 : tie.Need-returns-6
-returns-6 c = sees-cut source _ _ (c .before .before .before .total .given .0 .0) (cc) (search needs) (search needs)
+returns-6 c = let f = c .before .before in
+    let n = f .before .before .total .given .0 .0 in
+    let p = f .before .before .before .before .before .before .args .seen .now in
+    let t : sizeOf p ≡ Total n = cc in
+    sees-cut source _ _ n t (not-too-long _ p n t (f .fits-within .ensures) (not-false _ (c .before .if2 .left))) (search needs)
 
 pub look-spec : {M : Type 1} → statement M
 look-spec =
@@ -47,7 +71,8 @@ look-spec =
     enum-told
     enum-told-2
     enum-known-total
-    sub-t14
+    fits-within-requires
+    sub-t15
     returns
     returns-2
     returns-3

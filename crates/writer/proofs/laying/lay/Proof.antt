@@ -10,14 +10,14 @@ use Rattle.writer.proofs.laying.lay.Tie as tie
 lay-left-over-requires : tie.Need-lay-left-over-requires
 lay-left-over-requires c κs = search needs
 
-sub-least : tie.Need-sub-least
-sub-least c = search needs
+sub-lesser : tie.Need-sub-lesser
+sub-lesser c = search needs
 
-sub-least-2 : tie.Need-sub-least-2
-sub-least-2 c = search needs
+sub-lesser-2 : tie.Need-sub-lesser-2
+sub-lesser-2 c = search needs
 
-least-requires : tie.Need-least-requires
-least-requires c κs = search needs
+lesser-requires : tie.Need-lesser-requires
+lesser-requires c κs = search needs
 
 add-next : tie.Need-add-next
 add-next c = search needs
@@ -54,7 +54,7 @@ same-length c = search needs
 returns : tie.Need-returns
 returns c = let a = c .before .before .before .before .before .before .before .before .before .before .before .before .before .before .before .before .args in
     let l = c .before .before .before .before .before .before .before .before .before .before .before .before .lay-left-over in
-    let n = c .before .before .before .before .before .before .before .before .before .least in
+    let n = c .before .before .before .before .before .before .before .before .before .lesser in
     let f = c .before .before .lay-filler in
     field-laid (a .field .now) (a .run .now) (a .offset) (a .left-over) _ _ _ (l .result) (n .result) (f .result) (c .before .before .before .before .before .before .before .before .before .before .before .before .before .before .before .before .pre .0)
     (l .ensures .0) (n .ensures) (l .ensures .1) (c .before .before .before .before .before .before .copy .ensures) (f .ensures)
@@ -64,9 +64,9 @@ lay-spec =
     tie.close
     (tie.spec
     lay-left-over-requires
-    sub-least
-    sub-least-2
-    least-requires
+    sub-lesser
+    sub-lesser-2
+    lesser-requires
     add-next
     sub-copy
     part-copy-start

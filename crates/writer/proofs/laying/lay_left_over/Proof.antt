@@ -8,8 +8,8 @@ use borrow.Author.Needs.{needs}
 use Rattle.writer.proofs.laying.lay_left_over.Statement.{statement}
 use Rattle.writer.proofs.laying.lay_left_over.Tie as tie
 
-least-requires : tie.Need-least-requires
-least-requires c κs = search needs
+lesser-requires : tie.Need-lesser-requires
+lesser-requires c κs = search needs
 
 sub-from : tie.Need-sub-from
 sub-from c = search needs
@@ -34,14 +34,14 @@ same-length c = search needs
 
 returns : tie.Need-returns
 returns c = let a = c .before .before .before .before .before .before .before .before .args in
-    let n = c .before .before .before .before .before .before .least in
+    let n = c .before .before .before .before .before .before .lesser in
     (n .ensures, c .before .before .copy .ensures ∙ ap (laid (a .field .now) 0) (left-taken (length (a .field .now)) (a .left-over) (n .result) (c .before .before .before .before .before .before .before .before .pre) (n .ensures)))
 
 pub lay-left-over-spec : {M : Type 1} → statement M
 lay-left-over-spec =
     tie.close
     (tie.spec
-    least-requires
+    lesser-requires
     sub-from
     add-copy
     sub-copy

@@ -2,7 +2,7 @@
 -- Assumes nothing.
 use mathlib.Core.Path.{refl}
 use borrow.Author.Needs.{needs}
-use Rattle.channel.specs.Store.{placeOf}
+use Rattle.channel.specs.Store.{partPlace}
 use Rattle.channel.proofs.store.Store.place.Statement.{statement}
 use Rattle.channel.proofs.store.Store.place.Tie as tie
 
@@ -10,7 +10,7 @@ mul-result : tie.Need-mul-result
 mul-result c = search needs
 
 returns : tie.Need-returns
-unfolding placeOf
+unfolding partPlace
 returns c = refl
 
 pub place-spec : {M : Type 1} → statement M

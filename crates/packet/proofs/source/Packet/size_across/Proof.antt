@@ -24,8 +24,8 @@ copy-requires c κs = search needs
 sub-wanted : tie.Need-sub-wanted
 sub-wanted c = search needs
 
-least-requires : tie.Need-least-requires
-least-requires c κs = search needs
+lesser-requires : tie.Need-lesser-requires
+lesser-requires c κs = search needs
 
 slice-aggregate-copy-2 : tie.Need-slice-aggregate-copy-2
 slice-aggregate-copy-2 c = search needs
@@ -34,7 +34,7 @@ slice-aggregate-copy-3 : tie.Need-slice-aggregate-copy-3
 slice-aggregate-copy-3 c = sym (length-take-le _ (c .before .before .before .before .before .before .before .before .before .args .more .now) (omega arith))
 
 copy-requires-2 : tie.Need-copy-requires-2
-copy-requires-2 c κs = rw (length-take-le (c .before .before .least .result) (c .before .before .before .before .before .before .before .before .before .args .more .now) (omega arith)) (omega arith)
+copy-requires-2 c κs = rw (length-take-le (c .before .before .lesser .result) (c .before .before .before .before .before .before .before .before .before .args .more .now) (omega arith)) (omega arith)
 
 add-head : tie.Need-add-head
 add-head c = search needs
@@ -50,7 +50,7 @@ size-requires-2 c κs = search needs
 
 returns-2 : tie.Need-returns-2
 returns-2 c = let a = c .before .before .before .before .before .before .before .before .before .before .before .before .before .args in
-    let l = c .before .before .before .before .before .before .least in
+    let l = c .before .before .before .before .before .before .lesser in
     c .size2 .ensures
     ∙ ap sizeOf (head-is _ _ _ (a .held .now) (a .more .now) (l .result) refl (omega arith) (l .ensures) (c .before .before .before .before .before .before .before .before .copy .ensures) (c .before .before .before .copy2 .ensures))
     ∙ across (a .held .now) (a .more .now) (l .result) (omega arith) (l .ensures)
@@ -64,7 +64,7 @@ size-across-spec =
     slice-aggregate-copy
     copy-requires
     sub-wanted
-    least-requires
+    lesser-requires
     slice-aggregate-copy-2
     slice-aggregate-copy-3
     copy-requires-2
