@@ -30,6 +30,16 @@ and loaded together:
     >>> later = Desk.load(saved, length=20, spacecraft=171)
     >>> later.busy()
     Busy(mask=8, ones=1, lowest=3)
+
+Who has only frames to take apart or to put together needs no desk:
+
+    >>> from scowdeck import close_frame, open_frame
+    >>> opened = open_frame(frame, length=20, spacecraft=171, error_control=False)
+    >>> opened.channel, opened.pointer, opened.data.hex()
+    (3, 0, '0123c0050001dead07ffc0000000')
+    >>> frame == close_frame(opened.data, length=20, spacecraft=171, error_control=False, channel=3,
+    ...                      master_count=9, channel_count=4, pointer=0)
+    True
 """
 import ctypes
 import enum
@@ -40,47 +50,52 @@ import struct
 import typing
 from dataclasses import dataclass
 
-__all__ = ["Busy", "Desk", "Kind", "LoadError", "Place", "Refused", "Report", "WORDS", "library", "syndrome"]
+__all__ = ["Busy", "Desk", "Kind", "LoadError", "Opened", "POINTER_IDLE", "POINTER_NONE", "Place", "Refused", "Report", "WORDS",
+           "close_frame", "library", "open_frame", "syndrome"]
 
 CHANNELS = 8
 RECORD_WORDS = 32
 STORE_OCTETS = 32768
 OUTPUT_OCTETS = 6144
-READ_WORDS, WRITE_WORDS, BUSY_WORDS = 20, 5, 3
+READ_WORDS, WRITE_WORDS, BUSY_WORDS, OPEN_WORDS = 20, 5, 3, 14
+HEADER_OCTETS, CONTROL_WORD_OCTETS, ERROR_CONTROL_OCTETS = 6, 4, 2
+# The pointer of a frame with idle data only, and of one in which no packet starts.
+POINTER_IDLE, POINTER_NONE = 2046, 2047
 
-#: The paper's words for each refusal.
+#: The paper's words for each refusal; N is the frame length, D the octets of the data field.
 WORDS = {
     1: "N or the spacecraft number is outside its range",
     2: "the store is not 32,768 octets",
     3: "the output is under 6,144 octets",
-    4: "any of the eight channels' records breaks the rules",
+    4: "any of the eight records breaks the rules",
     5: "the frame is not N octets",
     6: "error control is set up and the syndrome is not zero",
-    7: "the frame version is not 00",
+    7: "frame version is not 00",
     8: "the spacecraft number differs",
     9: "the secondary header flag is set and that header's version is not 00",
-    10: "the data field would be below 1 octet",
+    10: "D would be below 1",
     11: "synchronisation flag 0, and either order flag not 0 or segment id not 11",
-    12: "synchronisation flag 0, and pointer neither inside the data field nor 2046 nor 2047",
-    20: "the channel is above 7",
-    21: "the run is over 65,536 octets",
-    22: "the run is not a chain of whole version 000 packets",
-    23: "the offset is past the run's end",
+    12: "synchronisation flag 0, and pointer neither below D nor 2046 nor 2047",
+    20: "channel above 7",
+    21: "run over 65,536 octets",
+    22: "run not a chain of whole version 000 packets",
+    23: "offset past the run's end",
     24: "left-over above 6, or not zero while the offset is neither 0 nor the run's end",
-    25: "the output is not N octets",
+    25: "output not N octets",
 }
 
 
 class Refused(Exception):
     """A call was refused: `number` of the paper's table and its `words`. Nothing was changed."""
 
-    def __init__(self, number):
+    def __init__(self, number, more=None):
         self.number = number
         self.words = WORDS.get(number, "no number of the paper")
-        super().__init__("refusal %d: %s" % (number, self.words))
+        self.more = more
+        super().__init__("refusal %d: %s%s" % (number, self.words, " (%s)" % more if more else ""))
 
     def __reduce__(self):
-        return Refused, (self.number,)
+        return Refused, (self.number, self.more)
 
 
 class LoadError(ValueError):
@@ -153,15 +168,37 @@ class Report:
         return len(self.packets)
 
 
+@dataclass(frozen=True)
+class Opened:
+    """What a frame that was opened tells.
+
+    `control_word` is None if the frame has none. `data` is the data field, and `data_place` where it
+    starts in the frame. If `synchronisation` is True, `order`, `segment` and `pointer` were not tested.
+    """
+
+    spacecraft: int
+    channel: int
+    master_count: int
+    channel_count: int
+    secondary_header: bool
+    synchronisation: bool
+    order: bool
+    segment: int
+    pointer: int
+    control_word: typing.Optional[int]
+    data_place: int
+    data: bytes
+
+
 # ---------------------------------------------------------------- the library
 
 _LOADED = None
 
 
 def library():
-    """The shared library, with the four functions of include/scowdeck.h and their types.
+    """The shared library, with the six functions of include/scowdeck.h and their types.
 
-    For calls that a Desk does not make: other lengths of record, store, output and answer. A slice is
+    For calls that this module does not make: other lengths of record, store, output and answer. A slice is
     a ctypes array (or bytes, where it is only read, or None for length 0) and its length.
     """
     global _LOADED
@@ -181,6 +218,8 @@ def _typed(found):
             ("read", [word] * 3 + piece * 5),
             ("write", [word] * 4 + [octet] * 2 + [word] * 2 + piece + [word] * 2 + piece * 2),
             ("busy", piece * 2),
+            ("open", [word] * 3 + piece * 2),
+            ("close", [word] * 4 + [octet] * 2 + [word] * 3 + piece),
             ("syndrome", piece)]:
         function = getattr(found, "scowdeck_" + name)
         function.argtypes, function.restype = types, word
@@ -234,6 +273,77 @@ def syndrome(octets):
     return library().scowdeck_syndrome(octets, len(octets))
 
 
+# ---------------------------------------------------------------- the frame part
+
+def _set_up(length, spacecraft, error_control):
+    return _number(length, "length"), _number(spacecraft, "spacecraft"), _truth(error_control, "error_control")
+
+
+def _word(control_word):
+    """Whether there is a control word, and which."""
+    return (0, 0) if control_word is None else (1, _bits(control_word, 32, "control_word"))
+
+
+def open_frame(frame, length, spacecraft, error_control):
+    """Opens one frame and gives its header values, control word and data field as an Opened, or raises
+    Refused, by tests 1 and 5 to 12. The set-up is that of a Desk; no desk is needed. `error_control` has
+    to be said: where frames have error control, False is not refused, and takes its two octets for data.
+
+    >>> open_frame(bytes.fromhex("0AB60B061FFE" + 14 * "55"), length=20, spacecraft=171, error_control=False).data.hex()
+    '5555555555555555555555555555'
+    >>> open_frame(b"", length=20, spacecraft=171, error_control=False)
+    Traceback (most recent call last):
+      ...
+    scowdeck.Refused: refusal 5: the frame is not N octets
+    """
+    frame, answer = _octets(frame), (ctypes.c_uint32 * OPEN_WORDS)()
+    number = library().scowdeck_open(*_set_up(length, spacecraft, error_control), frame, len(frame), answer, OPEN_WORDS)
+    if number != 0:
+        raise Refused(number)
+    (_, spacecraft, channel, flagged, master_count, channel_count, secondary, synchronisation, order, segment, pointer,
+     word, place, octets) = answer
+    return Opened(spacecraft, channel, master_count, channel_count, bool(secondary), bool(synchronisation), bool(order),
+                  segment, pointer, word if flagged else None, place, frame[place:place + octets])
+
+
+def close_frame(data, *, length, spacecraft, error_control, channel, master_count, channel_count, pointer,
+                control_word=None):
+    """Closes one frame: header, control word and error control around a data field. Gives the frame, or
+    raises Refused, by 1, 20 and 25. The set-up is that of a Desk; no desk is needed.
+
+    `data` has D = N - 6 - (4 with a control word) - (2 with error control) octets; with any other number
+    the frame would not have N octets, and is refused by 25. The frame has no secondary header,
+    synchronisation and order flag 0 and segment length id 3. `pointer` is the place in the data field, from 0, of the first packet
+    header that starts there, or POINTER_NONE if none does, or POINTER_IDLE for idle data. No frame holds one
+    above 2,047: a ValueError, as is a count or a control word that does not fit its bits. One that is neither below D nor 2046 nor 2047 is written, and refused by 12 when the
+    frame is opened.
+
+    >>> frame = close_frame(52 * b"U", length=64, spacecraft=5, error_control=True, channel=1,
+    ...                     master_count=9, channel_count=4, pointer=2046, control_word=0xCAFE)
+    >>> frame[:6].hex(), frame[-6:].hex(), syndrome(frame)
+    ('005309041ffe', '0000cafe79b9', 0)
+    >>> close_frame(b"", length=20, spacecraft=171, error_control=False, channel=3, master_count=9, channel_count=4,
+    ...             pointer=0)
+    Traceback (most recent call last):
+      ...
+    scowdeck.Refused: refusal 25: output not N octets (the data has 0 octets, and D is 14)
+    """
+    set_up, word = _set_up(length, spacecraft, error_control), _word(control_word)
+    data = _octets(data)
+    after = word[0] * CONTROL_WORD_OCTETS + set_up[2] * ERROR_CONTROL_OCTETS
+    output = bytearray(bytes(HEADER_OCTETS) + data + bytes(after))
+    lent = (ctypes.c_uint8 * len(output)).from_buffer(output)
+    number = library().scowdeck_close(
+        *set_up, _number(channel, "channel"), _bits(master_count, 8, "master_count"),
+        _bits(channel_count, 8, "channel_count"), *word, _bits(pointer, 11, "pointer"), lent, len(output))
+    if number == 25:
+        fit = max(0, length - HEADER_OCTETS - after)
+        raise Refused(number, "the data has %d octets, and D is %d" % (len(data), fit))
+    if number != 0:
+        raise Refused(number)
+    return bytes(output)
+
+
 # ---------------------------------------------------------------- saving
 
 # A saved desk: this name, the form's number, the record's 32 words big-endian, the store's octets, and
@@ -279,8 +389,7 @@ class Desk:
     """
 
     def __init__(self, length, spacecraft, error_control=False):
-        self._set_up = (_number(length, "length"), _number(spacecraft, "spacecraft"),
-                        _truth(error_control, "error_control"))
+        self._set_up = _set_up(length, spacecraft, error_control)
         self._record = (ctypes.c_uint32 * RECORD_WORDS)()
         self._store = (ctypes.c_uint8 * STORE_OCTETS)()
         self._output = (ctypes.c_uint8 * OUTPUT_OCTETS)()
@@ -345,8 +454,7 @@ class Desk:
         answer = (ctypes.c_uint32 * WRITE_WORDS)()
         number = library().scowdeck_write(
             *self._set_up, _number(channel, "channel"), _bits(place.master_count, 8, "master_count"),
-            _bits(place.channel_count, 8, "channel_count"), 0 if control_word is None else 1,
-            0 if control_word is None else _bits(control_word, 32, "control_word"), run, len(run),
+            _bits(place.channel_count, 8, "channel_count"), *_word(control_word), run, len(run),
             _number(place.offset, "offset"), _number(place.left_over, "left_over"), output, len(output),
             answer, WRITE_WORDS)
         if number != 0:

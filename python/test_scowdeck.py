@@ -6,6 +6,7 @@ the independent model in tests/model.py, never from the library.
 """
 import binascii
 import collections
+import contextlib
 import ctypes
 import doctest
 import importlib.util
@@ -14,15 +15,17 @@ import itertools
 import pathlib
 import pickle
 import random
+import re
 import struct
 import sys
+import textwrap
 import unittest
 
 sys.dont_write_bytecode = True
 HERE = pathlib.Path(__file__).resolve().parent
 sys.path.insert(0, str(HERE))
 import scowdeck  # noqa: E402
-from scowdeck import Busy, Desk, Kind, LoadError, Place, Refused, syndrome  # noqa: E402
+from scowdeck import Busy, Desk, Kind, LoadError, Opened, Place, Refused, close_frame, open_frame, syndrome  # noqa: E402
 
 
 def load_tests(loader, tests, pattern):
@@ -219,6 +222,151 @@ class Refusals(unittest.TestCase):
         again = pickle.loads(pickle.dumps(Refused(12)))
         self.assertEqual((again.number, again.words), (12, scowdeck.WORDS[12]))
 
+    def test_same_words_everywhere(self):
+        """The header and the Rust wrapper have the same words for each number."""
+        header = (HERE.parent / "include" / "scowdeck.h").read_text()
+        table = header[header.index("#define SCOWDECK_SET_UP_RANGE"):header.index("/* ---- records")]
+        found = re.findall(r"#define SCOWDECK_\w+ (\d+)u +/\* (.*) \*/", table)
+        self.assertEqual({int(number): words for number, words in found}, scowdeck.WORDS)
+        wrapper = (HERE.parent / "rust" / "scowdeck" / "src" / "refusal.rs").read_text()
+        found = re.findall(r'^    \w+ = (\d+) "(.*)",$', wrapper, re.MULTILINE)
+        self.assertEqual({int(number): words for number, words in found}, scowdeck.WORDS)
+
+
+# ---------------------------------------------------------------- the frame part
+
+CLOSING = {"length": 20, "spacecraft": 171, "error_control": False, "channel": 3, "master_count": 9, "channel_count": 4, "pointer": 0}
+
+
+def edited(frame, *places):
+    """The frame with other octets at some places."""
+    frame = bytearray(frame)
+    for place, value in places:
+        frame[place] = value
+    return bytes(frame)
+
+
+class FramePart(unittest.TestCase):
+    def test_readme(self):
+        """README's examples of the frame part: the Python one prints what it says, the C one is tests/c/frame.c."""
+        readme = (HERE.parent / "README.md").read_text()
+        blocks = {kind: text for kind, text in re.findall(r"```(\w+)\n(.*?)```", readme, re.DOTALL)
+                  if "close" in text}
+        said = io.StringIO()
+        with contextlib.redirect_stdout(said):
+            exec(blocks["python"], {})
+        self.assertEqual(said.getvalue(), blocks["python"].rsplit("# ", 1)[1])
+        program = (HERE.parent / "tests" / "c" / "frame.c").read_text()
+        self.assertIn(blocks["c"], textwrap.dedent(program[program.index("    uint8_t"):program.rindex("}")]))
+
+    def test_bench(self):
+        self.assertEqual(open_frame(B1, 20, 171, False),
+                         Opened(171, 3, 9, 4, False, False, False, 3, 0, None, 6, B1[6:]))
+        self.assertEqual(open_frame(bytearray(B3), 20, 171, False).pointer, 2046)
+        self.assertEqual(close_frame(B1[6:], **CLOSING), B1)
+        later = {**CLOSING, "master_count": 11, "channel_count": 6, "pointer": 2046}
+        self.assertEqual(close_frame(memoryview(B3)[6:], **later), B3)
+
+    def test_all_there_is(self):
+        """A secondary header of two octets, a control word and error control."""
+        frame = bytes.fromhex("2AABFF809801" + "0177" + "660421" "43C000" + "89ABCDEF")
+        frame += binascii.crc_hqx(frame, 0xFFFF).to_bytes(2, "big")
+        self.assertEqual(open_frame(frame, 20, 682, True),
+                         Opened(682, 5, 255, 128, True, False, False, 3, 1, 0x89ABCDEF, 8, frame[8:14]))
+        private = edited(B1, (4, 0x73), (5, 0xE8))
+        self.assertEqual(open_frame(private, 20, 171, False),
+                         Opened(171, 3, 9, 4, False, True, True, 2, 1000, None, 6, B1[6:]))
+
+    def test_opening_refused(self):
+        for number, frame in [(5, b""), (5, B2[:-1]), (5, B2 + b"\0"), (7, edited(B2, (0, 0x4A))),
+                              (8, edited(B2, (1, 0xC6))), (9, edited(B2, (4, 0x98), (6, 0x40))),
+                              (10, edited(B2, (4, 0x98), (6, 0x3F))), (11, edited(B2, (4, 0x38))),
+                              (11, edited(B2, (4, 0x10))), (12, edited(B2, (5, 14))), (0, edited(B2, (5, 13)))]:
+            self.assertEqual(refused(open_frame, frame, 20, 171, False), number)
+        for length, spacecraft in [(12, 171), (2049, 171), (20, 1024)]:
+            self.assertEqual(refused(open_frame, b"", length, spacecraft, False), 1)
+
+    def test_damaged(self):
+        frame = close_frame(bytes(58), **{**CLOSING, "length": 66, "error_control": True})
+        self.assertEqual(open_frame(frame, 66, 171, True).data, bytes(58))
+        for bit in range(8 * 66):
+            damaged = edited(frame, (bit // 8, frame[bit // 8] ^ 128 >> bit % 8))
+            self.assertEqual(refused(open_frame, damaged, 66, 171, True), 6)
+
+    def test_closing_refused(self):
+        for number, data, changed in [
+                (1, b"", {"length": 12, "channel": 8}), (1, b"", {"length": 2049}), (1, b"", {"spacecraft": 1024}),
+                (20, b"", {"channel": 8}), (25, b"", {}), (25, bytes(13), {}), (25, bytes(15), {}),
+                (25, bytes(14), {"control_word": 0}), (25, bytes(14), {"error_control": True}),
+                (25, bytes(1 << 20), {}), (0, bytes(14), {}), (0, bytes(10), {"control_word": 0}),
+                (0, bytes(8), {"control_word": 2**32 - 1, "error_control": True}),
+                (0, bytes(14), {"spacecraft": 1023, "channel": 7, "pointer": 2047})]:
+            self.assertEqual(refused(close_frame, data, **{**CLOSING, **changed}), number, changed)
+
+    def test_pointers(self):
+        """Every pointer that a frame can hold is written; those past the data field are refused when opened."""
+        for pointer in range(2048):
+            frame = close_frame(bytes(14), **{**CLOSING, "pointer": pointer})
+            self.assertEqual(frame[4:6], struct.pack(">H", 0x1800 + pointer))
+            self.assertEqual(refused(open_frame, frame, 20, 171, False), 12 if 14 <= pointer <= 2045 else 0)
+
+    def test_there_and_back(self):
+        rng = random.Random(21)
+        for _ in range(3000):
+            length, error_control = rng.choice([13, 14, 20, rng.randint(13, 300), 2048]), rng.random() < 0.5
+            word = rng.choice([None, 0, rng.randrange(2**32)])
+            data = rng.randbytes(length - 6 - (4 if word is not None else 0) - (2 if error_control else 0))
+            given = {"spacecraft": rng.randrange(1024), "channel": rng.randrange(8), "master_count": rng.randrange(256),
+                     "channel_count": rng.randrange(256), "control_word": word,
+                     "pointer": rng.choice([rng.randrange(len(data)), len(data) - 1, 2046, 2047])}
+            frame = close_frame(data, length=length, error_control=error_control, **given)
+            opened = open_frame(frame, length, given["spacecraft"], error_control)
+            self.assertEqual({name: getattr(opened, name) for name in given}, given)
+            self.assertEqual((len(frame), opened.data, opened.data_place, opened.segment), (length, data, 6, 3))
+            self.assertFalse(opened.secondary_header or opened.synchronisation or opened.order)
+
+    def test_numbers_of_any_size(self):
+        """Nothing is cut to 32 bits, or a pointer to 11, on the way in."""
+        for far in (-1, 2**32 + 20, 2**64 + 20, -2**40):
+            for name, number in [("length", 1), ("spacecraft", 1), ("channel", 20)]:
+                self.assertEqual(refused(close_frame, bytes(14), **{**CLOSING, name: far}), number)
+            self.assertEqual(refused(open_frame, B1, far, 171, False), 1)
+            self.assertEqual(refused(open_frame, B1, 20, far, False), 1)
+            for name in ("master_count", "channel_count", "pointer", "control_word"):
+                with self.assertRaisesRegex(ValueError, "^%s is " % name):
+                    close_frame(bytes(14), **{**CLOSING, name: far * 2**12})
+        for name, most in [("master_count", 255), ("channel_count", 255), ("pointer", 2047)]:
+            self.assertRaises(ValueError, close_frame, bytes(14), **{**CLOSING, name: most + 1})
+            self.assertEqual(refused(close_frame, bytes(14), **{**CLOSING, name: most}), 0)
+
+    def test_kinds_of_arguments(self):
+        for other in ("20", 20.0, None, True, b"20"):
+            for name in CLOSING.keys() - {"error_control"}:
+                with self.assertRaisesRegex(TypeError, "^%s is " % name):
+                    close_frame(bytes(14), **{**CLOSING, name: other})
+            self.assertRaisesRegex(TypeError, "^length is ", open_frame, B1, other, 171, False)
+            self.assertRaisesRegex(TypeError, "^spacecraft is ", open_frame, B1, 20, other, False)
+        for other in ("20", 20.0, True, b"20"):
+            self.assertRaisesRegex(TypeError, "^control_word is ", close_frame, bytes(10), **CLOSING, control_word=other)
+        for other in ("no", "", 1.0, None):
+            self.assertRaisesRegex(TypeError, "^error_control is ", open_frame, B1, 20, 171, other)
+            self.assertRaisesRegex(TypeError, "^error_control is ", close_frame, B1[6:], **{**CLOSING, "error_control": other})
+        for other in (20, "text", None, [1, 2]):
+            self.assertRaises(TypeError, open_frame, other, 20, 171, False)
+            self.assertRaises(TypeError, close_frame, other, **CLOSING)
+        self.assertRaises(TypeError, close_frame, B1[6:], 20, 171, 3, 9, 4, 0)
+
+    def test_nothing_left_out(self):
+        """Error control has to be said: a forgotten yes would not be refused."""
+        self.assertRaisesRegex(TypeError, "error_control", open_frame, B1, 20, 171)
+        given = {name: value for name, value in CLOSING.items() if name != "error_control"}
+        self.assertRaisesRegex(TypeError, "error_control", close_frame, B1[6:], **given)
+
+    def test_data_of_another_length(self):
+        for octets, changed, fit in [(13, {}, 14), (14, {"control_word": 0}, 10), (15, {"error_control": True}, 12)]:
+            with self.assertRaisesRegex(Refused, r"^refusal 25: .* \(the data has %d octets, and D is %d\)$" % (octets, fit)):
+                close_frame(bytes(octets), **{**CLOSING, **changed})
+
 
 # ---------------------------------------------------------------- a sender
 
@@ -371,7 +519,7 @@ def octets_of(lent):
 
 
 class Model(unittest.TestCase):
-    READS, WRITES = 5000, 3000
+    READS, WRITES, OPENS, CLOSES = 5000, 3000, 4000, 3000
 
     @classmethod
     def setUpClass(cls):
@@ -530,6 +678,52 @@ class Model(unittest.TestCase):
             if code:
                 run, place = self.run_of(rng), (0, rng.randrange(7), rng.randrange(256), rng.randrange(256))
         self.covered(seen, [0, 1] + list(range(20, 26)))
+
+    def opening(self, set_up, frame, room):
+        """One opening on the library and on the model."""
+        answer = (ctypes.c_uint32 * 20)(*range(900, 920))
+        lent = None if not frame else (ctypes.c_uint8 * len(frame)).from_buffer_copy(frame)
+        said = scowdeck.library().scowdeck_open(*set_up, lent, len(frame), answer if room else None, room)
+        code, h = self.model.open_alone(*set_up, frame)
+        names = self.model.HEADER_NAMES + ["word", "place", "size"]
+        values = [code] + [h[name] if h else 0 for name in names]
+        self.assertEqual(said, code)
+        self.assertEqual(list(answer), (values[:room] + list(range(900, 920))[min(room, 14):])[:20])
+        self.assertEqual(octets_of(lent), frame)
+        return code
+
+    def test_opening(self):
+        rng, seen = random.Random(15), collections.Counter()
+        for call in range(self.OPENS):
+            if call % 100 == 0:
+                length = rng.choice([13, 14, 17, 20, rng.randint(13, 80), rng.randint(100, 600), 1115, 2048])
+                set_up = length, 171, rng.choice([0, 1, 7 << 20])
+                senders = [Sender(rng, length, v, set_up[2]) for v in rng.sample(range(8), 3)]
+            asked = set_up if rng.random() < 0.97 else rng.choice(
+                [(12, 171, 0), (2049, 171, 1), (length, 1024, 0), (2**32 - 1, 171, 0), (length, 2**32 - 1, 1)])
+            seen[self.opening(asked, self.frame(rng, set_up, senders), rng.choice([14, 14, rng.randrange(20)]))] += 1
+        self.covered(seen, [0, 1] + list(range(5, 13)))
+
+    def test_closing(self):
+        """Closings on the library and on the model, with any pointer and any output."""
+        rng, seen = random.Random(16), collections.Counter()
+        for _ in range(self.CLOSES):
+            length = rng.choice([13, 14, 20, rng.randint(13, 80), rng.randint(100, 600), 2048])
+            set_up = length, rng.randrange(1024), rng.choice([0, 1, 99])
+            odd = rng.random()
+            asked = set_up if odd < 0.95 else rng.choice([(12, 3, 0), (2049, 3, 0), (20, 1024, 1)])
+            room = length if odd > 0.1 else rng.choice([0, 6, length - 1, length + 1])
+            channel = rng.choice([8, 259, 2**32 - 1]) if 0.08 < odd < 0.15 else rng.randrange(8)
+            numbers = channel, rng.randrange(256), rng.randrange(256)
+            has_word, word = rng.choice([0, 0, 1, 2, 1 << 31]), rng.randrange(2**32)
+            pointer = rng.choice([rng.randrange(2048), 2046, 2047, 2048, rng.randrange(2**32)])
+            output = rng.randbytes(room)
+            lent = (ctypes.c_uint8 * room).from_buffer_copy(output) if room else None
+            said = scowdeck.library().scowdeck_close(*asked, *numbers, has_word, word, pointer, lent, room)
+            code, after = self.model.close_frame(*asked, *numbers, word if has_word else None, pointer, output)
+            self.assertEqual((said, octets_of(lent)), (code, after))
+            seen[code] += 1
+        self.covered(seen, [0, 1, 20, 25])
 
     def test_busy(self):
         rng = random.Random(13)

@@ -115,6 +115,11 @@ def open_frame(n, spacecraft, error_control, frame):
     return 0, h
 
 
+def open_alone(n, spacecraft, error_control, frame):
+    """Row 1, then rows 5 to 12."""
+    return (1, None) if row_1(n, spacecraft) else open_frame(n, spacecraft, error_control, frame)
+
+
 def close_frame(n, spacecraft, error_control, channel, master, count, word, pointer, output):
     """Header, control word and check around a data field that is in its place already."""
     if row_1(n, spacecraft):
@@ -434,7 +439,7 @@ class Script:
         return line("crc", ("syndrome", "%04X" % check(message)))
 
     def do_open(self, n, spacecraft, error_control, frame):
-        code, h = (1, None) if row_1(n, spacecraft) else open_frame(n, spacecraft, error_control, frame)
+        code, h = open_alone(n, spacecraft, error_control, frame)
         names = HEADER_NAMES + ["word", "place", "size"]
         return line("open", ("number", code), *((name, h[name] if h else 0) for name in names))
 

@@ -19,9 +19,8 @@ APART = {"demands", "desk"}
 # Decision 15: parts that ask something of their arguments.
 PARTS = {
     "octets": {"octet", "octet_across", "number16", "number32", "put16", "put32", "copy", "fill"},
-    "frame": {"header.Header.of"},
     "packet": {"header.Header.of", "source.Packet.idle", "source.Packet.idle_across", "source.Packet.total", "distance"},
-    "channel": {"store.Store.place", "follows"},
+    "channel": {"store.Store.place"},
     "walk": {"walk", "steps"},
 }
 

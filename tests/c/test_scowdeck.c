@@ -1,7 +1,7 @@
 /*
  * The boundary from C: sizes, the bench of the paper, every refusal, odd words, short and long
- * answers, NULL with length 0, and what was written read back. The same text compiles as C99 and as
- * C++. What must be there is written out here or taken from the paper, never from the library.
+ * answers, NULL with length 0, what was written read back, and what was closed opened. The same text
+ * compiles as C99 and as C++. What must be there is written out here or taken from the paper, never from the library.
  *
  * All memory that is lent lies in one `struct world`, with guards around each slice. Before a call
  * the test edits a copy of it to what must be there afterwards; after the call every octet of the two
@@ -92,6 +92,18 @@ struct writing {
     size_t output_octets, answer_words;
 };
 
+struct opening {
+    uint32_t length, spacecraft, error_control;
+    size_t frame_octets, answer_words;
+};
+
+struct closing {
+    uint32_t length, spacecraft, error_control, channel;
+    uint8_t master_count, channel_count;
+    uint32_t has_word, word, pointer;
+    size_t output_octets;
+};
+
 /* The bench: N = 20, spacecraft 171, no error control. */
 static struct reading bench_reading(void)
 {
@@ -103,6 +115,18 @@ static struct writing bench_writing(void)
 {
     struct writing w = {20, 171, 0, 3, 9, 4, 0, 0, 0, 0, 0, 20, SCOWDECK_WRITE_WORDS};
     return w;
+}
+
+static struct opening bench_opening(void)
+{
+    struct opening o = {20, 171, 0, 20, SCOWDECK_OPEN_WORDS};
+    return o;
+}
+
+static struct closing bench_closing(void)
+{
+    struct closing c = {20, 171, 0, 3, 9, 4, 0, 0, 0, 20};
+    return c;
 }
 
 /* A slice of length 0 is lent as NULL. */
@@ -120,6 +144,18 @@ static uint32_t call_write(struct writing w)
     return scowdeck_write(w.length, w.spacecraft, w.error_control, w.channel, w.master_count, w.channel_count, w.has_word, w.word,
                           LENT(now.input, w.run_octets), w.run_octets, w.offset, w.left_over,
                           LENT(now.output, w.output_octets), w.output_octets, LENT(now.answer, w.answer_words), w.answer_words);
+}
+
+static uint32_t call_open(struct opening o)
+{
+    return scowdeck_open(o.length, o.spacecraft, o.error_control, LENT(now.input, o.frame_octets), o.frame_octets,
+                         LENT(now.answer, o.answer_words), o.answer_words);
+}
+
+static uint32_t call_close(struct closing c)
+{
+    return scowdeck_close(c.length, c.spacecraft, c.error_control, c.channel, c.master_count, c.channel_count, c.has_word, c.word,
+                          c.pointer, LENT(now.output, c.output_octets), c.output_octets);
 }
 
 /* `then` is edited already, but for the answer. */
@@ -161,6 +197,40 @@ static void write_refuses(const char *name, struct writing w, uint32_t number)
     words[4] = w.channel_count;
     then = now;
     write_gives(name, w, words);
+}
+
+/* An opening writes nothing but its answer, whatever it says. */
+static void open_gives(const char *name, struct opening o, const uint32_t words[14])
+{
+    uint32_t said;
+    then = now;
+    expect_words(words, SCOWDECK_OPEN_WORDS, o.answer_words);
+    said = call_open(o);
+    check(said == words[0], name, "returned number");
+    compare_worlds(name);
+}
+
+static void open_refuses(const char *name, struct opening o, uint32_t number)
+{
+    uint32_t words[14] = {0};
+    words[0] = number;
+    open_gives(name, o, words);
+}
+
+/* The output becomes this frame, and nothing else changes. */
+static void close_gives(const char *name, struct closing c, const uint8_t *frame)
+{
+    then = now;
+    memcpy(then.output, frame, c.output_octets);
+    check(call_close(c) == 0, name, "returned number");
+    compare_worlds(name);
+}
+
+static void close_refuses(const char *name, struct closing c, uint32_t number)
+{
+    then = now;
+    check(call_close(c) == number, name, "returned number");
+    compare_worlds(name);
 }
 
 /* ---- small helpers ----------------------------------------------------------------------------- */
@@ -242,6 +312,25 @@ static void test_read_answer_layout(void)
     AT(scowdeck_read_answer, oversize, 19);
 }
 
+static void test_open_answer_layout(void)
+{
+    check(sizeof(struct scowdeck_open_answer) == 56, "layout", "open answer");
+    AT(scowdeck_open_answer, number, 0);
+    AT(scowdeck_open_answer, spacecraft, 1);
+    AT(scowdeck_open_answer, channel, 2);
+    AT(scowdeck_open_answer, control_word_flag, 3);
+    AT(scowdeck_open_answer, master_count, 4);
+    AT(scowdeck_open_answer, channel_count, 5);
+    AT(scowdeck_open_answer, secondary_header_flag, 6);
+    AT(scowdeck_open_answer, synchronisation_flag, 7);
+    AT(scowdeck_open_answer, order_flag, 8);
+    AT(scowdeck_open_answer, segment_id, 9);
+    AT(scowdeck_open_answer, pointer, 10);
+    AT(scowdeck_open_answer, control_word, 11);
+    AT(scowdeck_open_answer, data_place, 12);
+    AT(scowdeck_open_answer, data_octets, 13);
+}
+
 static void test_layout(void)
 {
     check(sizeof(struct scowdeck_channel) == 16, "layout", "channel");
@@ -264,6 +353,7 @@ static void test_layout(void)
     AT(scowdeck_busy_answer, ones, 1);
     AT(scowdeck_busy_answer, lowest, 2);
     test_read_answer_layout();
+    test_open_answer_layout();
     check(SCOWDECK_STORE_OCTETS == SCOWDECK_CHANNELS * SCOWDECK_PART_OCTETS, "sizes", "store");
     check(SCOWDECK_OUTPUT_OCTETS == SCOWDECK_PACKET_MAX + SCOWDECK_LENGTH_MAX, "sizes", "output");
     check(SCOWDECK_RECORD_WORDS == SCOWDECK_CHANNELS * SCOWDECK_CHANNEL_WORDS, "sizes", "record");
@@ -681,12 +771,18 @@ static void test_all_empty(void)
 {
     struct reading r = {20, 171, 0, 0, 0, 0, 0, 0};
     struct writing w = {20, 171, 0, 3, 9, 4, 0, 0, 0, 0, 0, 0, 0};
+    struct opening o = {20, 171, 0, 0, 0};
+    struct closing c = {20, 171, 0, 3, 9, 4, 0, 0, 0, 0};
     new_world();
     read_refuses("all slices NULL", r, SCOWDECK_STORE_LENGTH);
     write_refuses("all slices NULL", w, SCOWDECK_OUTPUT_LENGTH);
-    r.length = w.length = 0;
+    open_refuses("all slices NULL", o, SCOWDECK_FRAME_LENGTH);
+    close_refuses("all slices NULL", c, SCOWDECK_OUTPUT_LENGTH);
+    r.length = w.length = o.length = c.length = 0;
     read_refuses("all slices NULL", r, SCOWDECK_SET_UP_RANGE);
     write_refuses("all slices NULL", w, SCOWDECK_SET_UP_RANGE);
+    open_refuses("all slices NULL", o, SCOWDECK_SET_UP_RANGE);
+    close_refuses("all slices NULL", c, SCOWDECK_SET_UP_RANGE);
     then = now;
     check(scowdeck_busy(NULL, 0, NULL, 0) == 0, "all slices NULL", "busy");
     compare_worlds("busy of nothing");
@@ -977,6 +1073,253 @@ static void test_there_and_back(void)
     }
 }
 
+/* ---- opening ----------------------------------------------------------------------------------- */
+
+static void test_open_bench(void)
+{
+    static const uint32_t first[14] = {0, 171, 3, 0, 9, 4, 0, 0, 0, 3, 0, 0, 6, 14};
+    static const uint32_t third[14] = {0, 171, 3, 0, 11, 6, 0, 0, 0, 3, 2046, 0, 6, 14};
+    static const uint32_t odd[14] = {0, 171, 3, 0, 9, 4, 0, 1, 1, 2, 1000, 0, 6, 14};
+    new_world();
+    memcpy(now.input, b1, 20);
+    open_gives("B1 opened", bench_opening(), first);
+    memcpy(now.input, b3, 20);
+    open_gives("B3 opened", bench_opening(), third);
+    memcpy(now.input, b1, 20);
+    now.input[4] = 0x40 | 0x20 | 0x10 | 3;
+    now.input[5] = 0xE8;
+    open_gives("a private frame opened", bench_opening(), odd);
+}
+
+/* Secondary header, control word and error control at once: D = 20 - 6 - 2 - 4 - 2, from octet 8 on. */
+static void test_open_whole_header(void)
+{
+    static const uint8_t frame[18] = {0x2A, 0xAB, 255, 128, 0x98, 1, 0x01, 0x77, 0x66, 0x04, 0x21, 0x43, 0xC0, 0x00, 0x89, 0xAB, 0xCD, 0xEF};
+    static const uint32_t yes[] = {1, 2, 256, 0x80000000u};
+    static const uint32_t words[14] = {0, 682, 5, 1, 255, 128, 1, 0, 0, 3, 1, 0x89ABCDEFu, 8, 6};
+    struct opening o = bench_opening();
+    size_t i;
+    o.spacecraft = 682;
+    for (i = 0; i < 4; i++) {
+        o.error_control = yes[i];
+        new_world();
+        memcpy(now.input, frame, 18);
+        close_check(now.input, 20);
+        open_gives("opened with all there is", o, words);
+        now.input[19] ^= 1;
+        open_refuses("damaged", o, SCOWDECK_FRAME_CHECK);
+    }
+}
+
+/* Everything is wrong at first; each round mends the cause that was given. */
+static void test_opening_order(void)
+{
+    struct opening o = {2049, 171, 1, 21, SCOWDECK_OPEN_WORDS};
+    int mended;
+    new_world();
+    faulty_frame(now.input, 0);
+    now.input[19] ^= 0x80;
+    open_refuses("opening, order, 1", o, 1);
+    o.length = 20;
+    o.spacecraft = 1024;
+    open_refuses("opening, order, 1 for the spacecraft", o, 1);
+    o.spacecraft = 171;
+    open_refuses("opening, order, 5", o, 5);
+    o.frame_octets = 20;
+    open_refuses("opening, order, 6", o, 6);
+    for (mended = 0; mended < 6; mended++) {
+        faulty_frame(now.input, mended);
+        open_refuses("opening, order, 7 to 12", o, (uint32_t)(7 + mended));
+    }
+    faulty_frame(now.input, 6);
+    now.input[4] = 0x90;
+    close_check(now.input, 20);
+    open_refuses("opening, 11 for the segment id", o, 11);
+    faulty_frame(now.input, 6);
+    check(call_open(o) == 0, "opening, order", "all mended");
+}
+
+static void test_open_lengths(void)
+{
+    static const uint32_t lengths[] = {0, 1, 6, 12, 2049, 65536 + 20, 0xFFFFFFFFu};
+    static const size_t frames[] = {0, 1, 5, 6, 7, 19, 21, 2048};
+    struct opening o;
+    size_t i;
+    new_world();
+    memcpy(now.input, b1, 20);
+    for (i = 0; i < sizeof lengths / sizeof lengths[0]; i++) {
+        o = bench_opening();
+        o.length = lengths[i];
+        open_refuses("opening, N", o, SCOWDECK_SET_UP_RANGE);
+        o.frame_octets = lengths[i] < 3000 ? lengths[i] : 20;
+        open_refuses("opening, N and a frame of N", o, SCOWDECK_SET_UP_RANGE);
+    }
+    for (i = 0; i < sizeof frames / sizeof frames[0]; i++) {
+        o = bench_opening();
+        o.frame_octets = frames[i];
+        open_refuses("opening, frame", o, SCOWDECK_FRAME_LENGTH);
+    }
+    o = bench_opening();
+    o.spacecraft = 0x10000u + 171;
+    open_refuses("opening, spacecraft", o, SCOWDECK_SET_UP_RANGE);
+}
+
+/* Every pointer, with D = 14; every secondary header, with D = 66 - 6 - s. */
+static void test_open_edges(void)
+{
+    uint32_t words[14] = {0, 171, 3, 0, 9, 4, 0, 0, 0, 3, 0, 0, 6, 14}, pointer, first;
+    struct opening o = bench_opening();
+    new_world();
+    memcpy(now.input, b1, 20);
+    for (pointer = 0; pointer < 2048; pointer++) {
+        now.input[4] = (uint8_t)(0x18 | pointer >> 8);
+        now.input[5] = (uint8_t)pointer;
+        words[10] = pointer;
+        if (pointer < 14 || pointer >= 2046) open_gives("opening, a pointer", o, words);
+        else open_refuses("opening, a pointer past the data field", o, SCOWDECK_POINTER_PLACE);
+    }
+    o.length = 66;
+    o.frame_octets = 66;
+    now.input[4] = 0x98;
+    now.input[5] = words[10] = 0;
+    for (first = 0; first < 256; first++) {
+        now.input[6] = (uint8_t)first;
+        words[6] = 1;
+        words[12] = 6 + first + 1;
+        words[13] = 66 - words[12];
+        if (first > 63) open_refuses("opening, a secondary header's version", o, SCOWDECK_SECONDARY_HEADER);
+        else if (first >= 59) open_refuses("opening, no data field", o, SCOWDECK_NO_DATA);
+        else open_gives("opening, a secondary header", o, words);
+    }
+}
+
+static void test_open_answer_lengths(void)
+{
+    static const uint32_t words[14] = {0, 171, 3, 0, 9, 4, 0, 0, 0, 3, 0, 0, 6, 14};
+    size_t n;
+    for (n = 0; n <= ANSWER_ROOM; n++) {
+        struct opening o = bench_opening();
+        o.answer_words = n;
+        new_world();
+        memcpy(now.input, b1, 20);
+        open_gives("answer of an opened frame", o, words);
+        o.spacecraft = 170;
+        open_refuses("answer of a frame that is not opened", o, SCOWDECK_OTHER_SPACECRAFT);
+        o.length = 12;
+        open_refuses("answer of a set-up that does not fit", o, SCOWDECK_SET_UP_RANGE);
+    }
+}
+
+/* ---- closing ----------------------------------------------------------------------------------- */
+
+static void test_close_bench(void)
+{
+    struct closing c = bench_closing();
+    new_world();
+    memcpy(now.output + 6, b1 + 6, 14);
+    close_gives("B1 closed", c, b1);
+    memcpy(now.output + 6, b3 + 6, 14);
+    c.master_count = 11;
+    c.channel_count = 6;
+    c.pointer = 2046;
+    c.word = 0xFFFFFFFFu; /* not looked at */
+    close_gives("B3 closed", c, b3);
+}
+
+static void test_close_refusals(void)
+{
+    static const uint32_t lengths[] = {0, 12, 2049, 65536 + 20, 0xFFFFFFFFu};
+    static const uint32_t channels[] = {8, 9, 255, 256 + 3, 0xFFFFFFFFu};
+    static const size_t outputs[] = {0, 1, 6, 19, 21, 2048};
+    struct closing c = {2049, 1024, 1, 8, 9, 4, 1, 0x01020304u, 0xFFFFFFFFu, 21};
+    size_t i;
+    new_world();
+    close_refuses("closing, order, 1", c, 1);
+    c.length = 20;
+    close_refuses("closing, order, 1 for the spacecraft", c, 1);
+    c.spacecraft = 171;
+    close_refuses("closing, order, 20", c, 20);
+    c.channel = 7;
+    close_refuses("closing, order, 25", c, 25);
+    for (i = 0; i < sizeof lengths / sizeof lengths[0]; i++) {
+        c = bench_closing();
+        c.length = lengths[i];
+        c.output_octets = lengths[i] < 3000 ? lengths[i] : 20;
+        close_refuses("closing, N", c, SCOWDECK_SET_UP_RANGE);
+    }
+    for (i = 0; i < sizeof channels / sizeof channels[0]; i++) {
+        c = bench_closing();
+        c.channel = channels[i];
+        close_refuses("closing, channel", c, SCOWDECK_CHANNEL_ABOVE);
+    }
+    for (i = 0; i < sizeof outputs / sizeof outputs[0]; i++) {
+        c = bench_closing();
+        c.output_octets = outputs[i];
+        close_refuses("closing, output", c, SCOWDECK_OUTPUT_LENGTH);
+    }
+}
+
+/* The frame by the paper's layout, around the data field that lies in `now.output`; gives D. */
+static uint32_t lay_frame(uint8_t *frame, struct closing c)
+{
+    uint32_t d = c.length - 6 - (c.has_word ? 4 : 0) - (c.error_control ? 2 : 0), i;
+    memcpy(frame + 6, now.output + 6, d);
+    frame[0] = (uint8_t)(c.spacecraft / 16);
+    frame[1] = (uint8_t)(c.spacecraft % 16 * 16 + c.channel * 2 + (c.has_word ? 1 : 0));
+    frame[2] = c.master_count;
+    frame[3] = c.channel_count;
+    frame[4] = (uint8_t)(3 * 8 + c.pointer % 2048 / 256);
+    frame[5] = (uint8_t)(c.pointer % 256);
+    for (i = 0; c.has_word && i < 4; i++) frame[6 + d + i] = (uint8_t)(c.word >> (24 - 8 * i));
+    if (c.error_control) close_check(frame, c.length);
+    return d;
+}
+
+/* Closes a frame with any pointer and opens it: the values given come back, or 12. */
+static void close_and_open(struct closing c)
+{
+    static uint8_t frame[2048];
+    uint32_t d = lay_frame(frame, c), pointer = c.pointer % 2048;
+    struct opening o = bench_opening();
+    uint32_t words[14] = {0, 0, 0, 0, 0, 0, 0, 0, 0, 3, 0, 0, 6, 0};
+    close_gives("closed", c, frame);
+    o.length = c.length;
+    o.spacecraft = c.spacecraft;
+    o.error_control = c.error_control;
+    o.frame_octets = c.length;
+    words[1] = c.spacecraft;
+    words[2] = c.channel;
+    words[3] = c.has_word ? 1 : 0;
+    words[4] = c.master_count;
+    words[5] = c.channel_count;
+    words[10] = pointer;
+    words[11] = c.has_word ? c.word : 0;
+    words[13] = d;
+    memcpy(now.input, now.output, c.length);
+    if (pointer < d || pointer >= 2046) open_gives("closed and opened", o, words);
+    else open_refuses("closed with a pointer past the data field", o, SCOWDECK_POINTER_PLACE);
+}
+
+static void test_close_and_open(void)
+{
+    static const uint32_t pointers[] = {0, 1, 13, 14, 1000, 2045, 2046, 2047, 2048, 2049, 4095, 4096, 0x2000, 0x8000, 0xFFFFFFFFu};
+    static const uint32_t lengths[] = {13, 14, 15, 16, 17, 18, 19, 20, 21, 22, 64, 256, 1115, 2047, 2048};
+    uint32_t error_control, has_word;
+    size_t n, i;
+    for (n = 0; n < sizeof lengths / sizeof lengths[0]; n++) {
+        for (error_control = 0; error_control < 2; error_control++) {
+            for (has_word = 0; has_word < 2; has_word++) {
+                new_world();
+                for (i = 0; i < sizeof pointers / sizeof pointers[0]; i++) {
+                    struct closing c = {lengths[n], chance(1024), error_control * 0x80000000u, chance(8), (uint8_t)chance(256),
+                                        (uint8_t)chance(256), has_word * 0x100, 0x80000001u + chance(9999), pointers[i], lengths[n]};
+                    close_and_open(c);
+                }
+            }
+        }
+    }
+}
+
 int main(void)
 {
     test_layout();
@@ -1004,6 +1347,15 @@ int main(void)
     test_busy();
     test_busy_odd();
     test_there_and_back();
+    test_open_bench();
+    test_open_whole_header();
+    test_opening_order();
+    test_open_lengths();
+    test_open_edges();
+    test_open_answer_lengths();
+    test_close_bench();
+    test_close_refusals();
+    test_close_and_open();
     printf("%lu checks, %lu failed\n", checks, failures);
     return failures != 0;
 }

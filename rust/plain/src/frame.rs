@@ -1,4 +1,4 @@
-//! A frame taken apart: tests 5 to 12.
+//! A frame taken apart: tests 1 and 5 to 12.
 
 use crate::check::syndrome;
 use crate::counts::{ChannelCount, MasterCount};
@@ -8,7 +8,7 @@ use crate::set_up::SetUp;
 pub(crate) const HEADER: usize = 6;
 pub(crate) const NO_START: u16 = 2047;
 pub(crate) const IDLE_DATA: u16 = 2046;
-const CONTROL_WORD: usize = 4;
+pub(crate) const CONTROL_WORD: usize = 4;
 
 #[derive(Clone, Copy, Debug, PartialEq, Eq)]
 pub enum Kind {
@@ -69,29 +69,40 @@ impl Header {
 }
 
 /// A frame that passed its tests.
-pub(crate) struct Frame<'a> {
+#[derive(Clone, Copy, Debug, PartialEq, Eq)]
+pub struct Frame<'a> {
     pub header: Header,
+    /// Where the data field starts.
+    pub place: usize,
     pub data: &'a [u8],
+    /// Zero if the frame has none.
     pub control_word: u32,
 }
 
+/// Opens one frame.
+pub fn open<'a>(set_up: &SetUp, octets: &'a [u8]) -> Result<Frame<'a>, Refusal> {
+    set_up.test()?;
+    Frame::open(set_up, octets)
+}
+
 impl<'a> Frame<'a> {
-    pub fn open(set_up: &SetUp, octets: &'a [u8]) -> Result<Frame<'a>, Refusal> {
+    /// Tests 5 to 12, under a set-up that fits.
+    pub(crate) fn open(set_up: &SetUp, octets: &'a [u8]) -> Result<Frame<'a>, Refusal> {
         refuse_if(octets.len() != set_up.octets(), Refusal::FrameLength)?;
         refuse_if(set_up.error_control && syndrome(octets) != 0, Refusal::Damaged)?;
         let header = Header::parse(octets);
         refuse_if(header.version != 0, Refusal::FrameVersion)?;
         refuse_if(u32::from(header.spacecraft) != set_up.spacecraft, Refusal::Spacecraft)?;
-        let start = HEADER + secondary_octets(&header, octets)?;
+        let place = HEADER + secondary_octets(&header, octets)?;
         let after = octets.len() - set_up.check_octets() - header.control_octets();
-        refuse_if(after <= start, Refusal::NoDataField)?;
-        let data = &octets[start..after];
+        refuse_if(after <= place, Refusal::NoDataField)?;
+        let data = &octets[place..after];
         test_packet_fields(&header, data.len())?;
         let control_word = match octets[after..] {
             [a, b, c, d, ..] if header.control_word => u32::from_be_bytes([a, b, c, d]),
             _ => 0,
         };
-        Ok(Frame { header, data, control_word })
+        Ok(Frame { header, place, data, control_word })
     }
 }
 

@@ -1,6 +1,8 @@
-//! The same four functions as the library's boundary: numbers, words and octets alone.
+//! The same six functions as the library's boundary: numbers, words and octets alone.
 
+use crate::closing::{close as close_frame, Closing};
 use crate::counts::{ChannelCount, MasterCount};
+use crate::frame::{open as open_frame, Frame, Header};
 use crate::reader::{read as read_frame, test_lent, Report};
 use crate::record::{Busy, Channel, Record, State, CHANNELS};
 use crate::refusal::Refusal;
@@ -13,6 +15,8 @@ pub const RECORD: usize = 4 * CHANNELS;
 pub const READ_ANSWER: usize = 20;
 /// Words of the answer of a writing.
 pub const WRITE_ANSWER: usize = 5;
+/// Words of the answer of an opening.
+pub const OPEN_ANSWER: usize = 14;
 
 impl Channel {
     /// None where no channel has such words.
@@ -66,11 +70,9 @@ fn put(answer: &mut [u32], words: &[u32]) {
     answer.iter_mut().zip(words).for_each(|(to, from)| *to = *from);
 }
 
-fn report_words(report: &Report) -> [u32; READ_ANSWER] {
-    let Report { kind, header, control_word, counts } = report;
+/// The ten header values, in the order of both answers.
+fn header_words(header: &Header) -> [u32; 10] {
     [
-        0,
-        *kind as u32,
         u32::from(header.spacecraft),
         u32::from(header.channel),
         u32::from(header.control_word),
@@ -81,6 +83,15 @@ fn report_words(report: &Report) -> [u32; READ_ANSWER] {
         u32::from(header.order),
         u32::from(header.segment),
         u32::from(header.pointer),
+    ]
+}
+
+fn report_words(report: &Report) -> [u32; READ_ANSWER] {
+    let Report { kind, header, control_word, counts } = report;
+    let mut words = [0; READ_ANSWER];
+    words[1] = *kind as u32;
+    words[2..12].copy_from_slice(&header_words(header));
+    words[12..].copy_from_slice(&[
         *control_word,
         counts.gap,
         counts.delivered,
@@ -89,7 +100,22 @@ fn report_words(report: &Report) -> [u32; READ_ANSWER] {
         counts.disagreement,
         counts.foreign,
         counts.oversize,
-    ]
+    ]);
+    words
+}
+
+fn frame_words(frame: &Frame) -> [u32; OPEN_ANSWER] {
+    let mut words = [0; OPEN_ANSWER];
+    words[1..11].copy_from_slice(&header_words(&frame.header));
+    words[11..].copy_from_slice(&[frame.control_word, frame.place as u32, frame.data.len() as u32]);
+    words
+}
+
+/// The number alone, and zeros.
+fn refusal_words<const N: usize>(refusal: Refusal) -> [u32; N] {
+    let mut words = [0; N];
+    words[0] = refusal.number();
+    words
 }
 
 #[allow(clippy::too_many_arguments)] // the boundary's own parameters
@@ -117,9 +143,7 @@ pub fn read(
             0
         }
         Err(refusal) => {
-            let mut words = [0; READ_ANSWER];
-            words[0] = refusal.number();
-            put(answer, &words);
+            put(answer, &refusal_words::<READ_ANSWER>(refusal));
             refusal.number()
         }
     }
@@ -157,6 +181,46 @@ pub fn write(
     let counts = [u32::from(place.master_count.0), u32::from(place.channel_count.0)];
     put(answer, &[number, place.offset, place.left_over, counts[0], counts[1]]);
     number
+}
+
+pub fn open(
+    length: u32,
+    spacecraft: u32,
+    error_control: u32,
+    frame: &[u8],
+    answer: &mut [u32],
+) -> u32 {
+    let set_up = SetUp { length, spacecraft, error_control: error_control != 0 };
+    let words = match open_frame(&set_up, frame) {
+        Ok(frame) => frame_words(&frame),
+        Err(refusal) => refusal_words(refusal),
+    };
+    put(answer, &words);
+    words[0]
+}
+
+#[allow(clippy::too_many_arguments)] // the boundary's own parameters
+pub fn close(
+    length: u32,
+    spacecraft: u32,
+    error_control: u32,
+    channel: u32,
+    master_count: u8,
+    channel_count: u8,
+    has_word: u32,
+    word: u32,
+    pointer: u32,
+    output: &mut [u8],
+) -> u32 {
+    let set_up = SetUp { length, spacecraft, error_control: error_control != 0 };
+    let closing = Closing {
+        channel,
+        master_count: MasterCount(master_count),
+        channel_count: ChannelCount(channel_count),
+        control_word: (has_word != 0).then_some(word),
+        pointer,
+    };
+    close_frame(&set_up, &closing, output).map_or_else(Refusal::number, |()| 0)
 }
 
 /// From the states alone, for any words: a channel without its four words hunts.

@@ -1,8 +1,8 @@
 //! Writing one frame.
 
-use crate::check::syndrome;
+use crate::closing::{field, surround, Closing};
 use crate::counts::{ChannelCount, MasterCount};
-use crate::frame::{HEADER, IDLE_DATA, NO_START};
+use crate::frame::{IDLE_DATA, NO_START};
 use crate::packet::{size, Size};
 use crate::refusal::{refuse_if, Refusal};
 use crate::set_up::SetUp;
@@ -37,24 +37,18 @@ pub fn write(
     output: &mut [u8],
 ) -> Result<Place, Refusal> {
     test(set_up, writing, run, output)?;
-    let control_octets = if writing.control_word.is_some() { 4 } else { 0 };
-    let after = set_up.octets() - set_up.check_octets() - control_octets;
-    let field = &mut output[HEADER..after];
-    let pointer = pointer(&writing.place, run, field.len());
-    let (offset, left_over) = lay(&writing.place, run, field);
-    put_header(set_up, writing, pointer, output);
-    if let Some(word) = writing.control_word {
-        output[after..after + 4].copy_from_slice(&word.to_be_bytes());
-    }
-    if set_up.error_control {
-        let (message, check) = output.split_at_mut(set_up.octets() - 2);
-        check.copy_from_slice(&syndrome(message).to_be_bytes());
-    }
+    let Writing { channel, control_word, place } = *writing;
+    let Place { master_count, channel_count, .. } = place;
+    let field = &mut output[field(set_up, control_word)];
+    let pointer = u32::from(pointer(&place, run, field.len()));
+    let (offset, left_over) = lay(&place, run, field);
+    let closing = Closing { channel, master_count, channel_count, control_word, pointer };
+    surround(set_up, &closing, output);
     Ok(Place {
         offset: offset as u32,
         left_over: left_over as u32,
-        master_count: writing.place.master_count.next(),
-        channel_count: writing.place.channel_count.next(),
+        master_count: master_count.next(),
+        channel_count: channel_count.next(),
     })
 }
 
@@ -128,13 +122,4 @@ fn fill(room: &mut [u8]) -> usize {
             0
         }
     }
-}
-
-fn put_header(set_up: &SetUp, writing: &Writing, pointer: u16, output: &mut [u8]) {
-    let flag = u32::from(writing.control_word.is_some());
-    let identification = set_up.spacecraft << 4 | writing.channel << 1 | flag;
-    output[..2].copy_from_slice(&(identification as u16).to_be_bytes());
-    output[2] = writing.place.master_count.0;
-    output[3] = writing.place.channel_count.0;
-    output[4..HEADER].copy_from_slice(&(3 << 11 | pointer).to_be_bytes());
 }

@@ -1,4 +1,4 @@
-//! The paper's bench, B1 to B8.
+//! The paper's bench, B1 to B8, with B1 opened and closed as well.
 
 use plain::*;
 
@@ -124,4 +124,33 @@ fn b8_most_packets() {
     let counts = bench.read(&set_up, &frame).unwrap().counts;
     assert_eq!(counts, Counts { delivered: 292, ..Counts::default() });
     assert_eq!(2042_usize.div_ceil(7), 292);
+}
+
+#[test]
+fn b1_opened() {
+    let frame = open(&SET_UP, &B1).unwrap();
+    let Header { spacecraft, channel, master_count, channel_count, pointer, .. } = frame.header;
+    assert_eq!((spacecraft, channel, pointer), (171, 3, 0));
+    assert_eq!((master_count, channel_count), (MasterCount(9), ChannelCount(4)));
+    assert_eq!((frame.place, frame.data, frame.control_word), (6, &B1[6..], 0));
+    assert_eq!(open(&SetUp { length: 12, ..SET_UP }, &B1), Err(Refusal::SetUp));
+}
+
+#[test]
+fn b1_closed() {
+    let mut closing = Closing {
+        channel: 3,
+        master_count: MasterCount(9),
+        channel_count: ChannelCount(4),
+        control_word: None,
+        pointer: 2048,
+    };
+    let mut output = [0xEE; 20];
+    output[6..].copy_from_slice(&B1[6..]);
+    assert_eq!(close(&SET_UP, &closing, &mut output), Ok(()));
+    assert_eq!(output, B1);
+    assert_eq!(close(&SET_UP, &closing, &mut output[1..]), Err(Refusal::OutputLength));
+    closing.channel = 8;
+    assert_eq!(close(&SET_UP, &closing, &mut output[1..]), Err(Refusal::Channel));
+    assert_eq!(output, B1);
 }

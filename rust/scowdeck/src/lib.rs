@@ -1,7 +1,8 @@
 //! Telemetry frames in, packets out per virtual channel.
 //!
 //! A safe wrapper over the proved library (`libhost.a`, declared in `include/scowdeck.h`). A [`Desk`] owns
-//! what belongs together: the record of the eight channels, their holding store, and the output.
+//! what belongs together: the record of the eight channels, their holding store, and the output. Who has only
+//! frames to take apart or to put together needs no desk: [`open`] and [`close`].
 //!
 //! ```
 //! use scowdeck::{write, ChannelCount, Desk, Kind, MasterCount, Place, SetUp, Writing};
@@ -39,6 +40,7 @@
 
 mod desk;
 pub mod ffi;
+mod frame;
 mod packets;
 mod refusal;
 mod report;
@@ -46,6 +48,7 @@ mod saved;
 mod writing;
 
 pub use desk::{Busy, Desk, SetUp};
+pub use frame::{close, open, Closing, Opened};
 pub use packets::Packets;
 pub use refusal::Refusal;
 pub use report::{Kind, Report};

@@ -29,7 +29,7 @@ refusals! {
     SetUp = 1 "N or the spacecraft number is outside its range",
     Store = 2 "the store is not 32,768 octets",
     Output = 3 "the output is under 6,144 octets",
-    Record = 4 "any of the eight channels' records breaks the rules",
+    Record = 4 "any of the eight records breaks the rules",
     FrameLength = 5 "the frame is not N octets",
     Damaged = 6 "error control is set up and the syndrome is not zero",
     FrameVersion = 7 "frame version is not 00",

@@ -1,4 +1,4 @@
-//! The boundary's four functions, whoever answers them.
+//! The boundary's six functions, whoever answers them.
 
 /// Length, spacecraft number, error control.
 pub type SetUpWords = [u32; 3];
@@ -13,6 +13,17 @@ pub struct WriteNumbers {
     pub word: u32,
     pub offset: u32,
     pub left_over: u32,
+}
+
+/// The numbers that go into a closing besides the set-up.
+#[derive(Clone, Copy, Debug)]
+pub struct CloseNumbers {
+    pub channel: u32,
+    pub master_count: u8,
+    pub channel_count: u8,
+    pub has_word: u32,
+    pub word: u32,
+    pub pointer: u32,
 }
 
 /// What is lent to a reading.
@@ -34,6 +45,8 @@ pub trait Boundary {
         output: &mut [u8],
         answer: &mut [u32],
     ) -> u32;
+    fn open(&self, set_up: SetUpWords, frame: &[u8], answer: &mut [u32]) -> u32;
+    fn close(&self, set_up: SetUpWords, numbers: &CloseNumbers, output: &mut [u8]) -> u32;
     fn busy(&self, record: &[u32], answer: &mut [u32]) -> u32;
     fn syndrome(&self, octets: &[u8]) -> u32;
 }
@@ -73,6 +86,37 @@ macro_rules! boundary {
                     n.left_over,
                     output,
                     answer,
+                )
+            }
+
+            fn open(
+                &self,
+                [length, spacecraft, control]: SetUpWords,
+                frame: &[u8],
+                answer: &mut [u32],
+            ) -> u32 {
+                use $functions as functions;
+                functions::open(length, spacecraft, control, frame, answer)
+            }
+
+            fn close(
+                &self,
+                [length, spacecraft, control]: SetUpWords,
+                n: &CloseNumbers,
+                output: &mut [u8],
+            ) -> u32 {
+                use $functions as functions;
+                functions::close(
+                    length,
+                    spacecraft,
+                    control,
+                    n.channel,
+                    n.master_count,
+                    n.channel_count,
+                    n.has_word,
+                    n.word,
+                    n.pointer,
+                    output,
                 )
             }
 

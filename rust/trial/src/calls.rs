@@ -1,6 +1,6 @@
 //! Calls of the boundary, and what comes of them.
 
-use crate::boundary::{SetUpWords, WriteNumbers};
+use crate::boundary::{CloseNumbers, SetUpWords, WriteNumbers};
 use std::fmt::Write;
 
 pub const STORE: usize = 32_768;
@@ -42,6 +42,20 @@ pub struct WriteCall {
     pub answer_words: usize,
 }
 
+#[derive(Clone, Debug)]
+pub struct OpenCall {
+    pub set_up: SetUpWords,
+    pub answer_words: usize,
+    pub frame: Vec<u8>,
+}
+
+#[derive(Clone, Debug)]
+pub struct CloseCall {
+    pub set_up: SetUpWords,
+    pub numbers: CloseNumbers,
+    pub output_octets: usize,
+}
+
 /// What both answered to a reading.
 #[derive(Clone, Debug)]
 pub struct Read {
@@ -59,6 +73,23 @@ pub struct Written {
     pub number: u32,
     pub words: Option<[u32; 5]>,
     pub frame: Vec<u8>,
+}
+
+/// What both answered to an opening.
+#[derive(Clone, Debug)]
+pub struct Opened {
+    pub number: u32,
+    /// The answer, if there was room for all of it.
+    pub words: Option<[u32; 14]>,
+}
+
+/// What both answered to a closing.
+#[derive(Clone, Debug)]
+pub struct Closed {
+    pub number: u32,
+    /// The output before and after.
+    pub before: Vec<u8>,
+    pub after: Vec<u8>,
 }
 
 /// Octets of so many packets that stand end to end.

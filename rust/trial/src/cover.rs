@@ -142,6 +142,43 @@ items! {
     WriteAnswerShort = "writing: answer too short",
     WriteAnswerLong = "writing: answer with words to spare",
     ReadBack = "writing: run read back whole",
+    Opened = "opening: opened",
+    OpenRefused1 = "opening: refusal 1",
+    OpenRefused5 = "opening: refusal 5",
+    OpenRefused6 = "opening: refusal 6",
+    OpenRefused7 = "opening: refusal 7",
+    OpenRefused8 = "opening: refusal 8",
+    OpenRefused9 = "opening: refusal 9",
+    OpenRefused10 = "opening: refusal 10",
+    OpenRefused11 = "opening: refusal 11",
+    OpenRefused12 = "opening: refusal 12",
+    OpenTwoCauses = "opening: two causes at once",
+    OpenPrivate = "opening: private",
+    OpenSecondary = "opening: secondary header",
+    OpenWord = "opening: control word",
+    OpenChecked = "opening: error control",
+    OpenAll = "opening: secondary header, control word and error control",
+    OpenDataOne = "opening: D = 1",
+    OpenAnswerNone = "opening: answer of 0 words",
+    OpenAnswerShort = "opening: answer too short",
+    OpenAnswerLong = "opening: answer with words to spare",
+    OpenLaid = "opening: the values that were laid",
+    OpenAsRead = "opening: the values that reading gives",
+    OpenRefusedAsRead = "opening: refused as reading refuses",
+    Closed = "closing: closed",
+    CloseRefused1 = "closing: refusal 1",
+    CloseRefused20 = "closing: refusal 20",
+    CloseRefused25 = "closing: refusal 25",
+    CloseTwoCauses = "closing: two causes at once",
+    CloseShort = "refusal 25: output too short, closing",
+    CloseLong = "refusal 25: output too long, closing",
+    CloseWord = "closing: control word",
+    CloseNoWord = "closing: a word that is not asked for",
+    CloseChecked = "closing: error control",
+    CloseDataOne = "closing: D = 1",
+    CloseAbove = "closing: pointer above 2,047",
+    ClosePast = "closing: pointer past the data field, 12 when opened",
+    CloseOpened = "closing: opened with the values given",
     BusyNone = "busy: none",
     BusyAll = "busy: all eight",
     BusySome = "busy: some",
@@ -157,6 +194,10 @@ items! {
     DeskPackets = "desk: packets handed out",
     DeskLoaded = "desk: saved and loaded while busy",
     DeskWritten = "desk: written",
+    WrapperOpened = "wrapper: opened",
+    WrapperNotOpened = "wrapper: not opened",
+    WrapperClosed = "wrapper: closed",
+    WrapperNotClosed = "wrapper: not closed",
 }
 
 /// How often each item came up.
@@ -222,6 +263,34 @@ pub fn write_refused(number: u32) -> Option<Item> {
     }
 }
 
+/// The item of a refused opening.
+pub fn open_refused(number: u32) -> Option<Item> {
+    use Item::*;
+    match number {
+        1 => Some(OpenRefused1),
+        5 => Some(OpenRefused5),
+        6 => Some(OpenRefused6),
+        7 => Some(OpenRefused7),
+        8 => Some(OpenRefused8),
+        9 => Some(OpenRefused9),
+        10 => Some(OpenRefused10),
+        11 => Some(OpenRefused11),
+        12 => Some(OpenRefused12),
+        _ => None,
+    }
+}
+
+/// The item of a refused closing.
+pub fn close_refused(number: u32) -> Option<Item> {
+    use Item::*;
+    match number {
+        1 => Some(CloseRefused1),
+        20 => Some(CloseRefused20),
+        25 => Some(CloseRefused25),
+        _ => None,
+    }
+}
+
 #[cfg(test)]
 mod tests {
     use super::*;
@@ -247,5 +316,6 @@ mod tests {
     fn numbers_and_items() {
         assert_eq!((refused(1), refused(12)), (Some(Item::Refused1), Some(Item::Refused12)));
         assert_eq!((refused(0), refused(13), write_refused(19)), (None, None, None));
+        assert_eq!((open_refused(2), close_refused(21)), (None, None));
     }
 }

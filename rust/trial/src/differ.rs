@@ -5,7 +5,7 @@ use crate::calls::Checked;
 use crate::cover::Table;
 use crate::pair::Pair;
 use crate::random::Random;
-use crate::scenes::{lone, small, stream, wrapper, writing, Stage};
+use crate::scenes::{frame_part, lone, small, stream, wrapper, writing, Stage};
 
 pub struct Plan {
     pub seed: u64,
@@ -53,11 +53,12 @@ pub fn run(left: &dyn Boundary, right: &dyn Boundary, plan: &Plan) -> Outcome {
 
 fn play(pair: &mut Pair, table: &mut Table, seed: u64, episode: u64) -> Checked<()> {
     let mut stage = Stage { random: Random::new(!seed), pair, table };
-    match episode % 20 {
+    match episode % 22 {
         0..=8 => stream::play(&mut stage),
         9..=13 => lone::play(&mut stage),
         14..=17 => writing::play(&mut stage),
-        18 => small::play(&mut stage),
+        18..=19 => frame_part::play(&mut stage),
+        20 => small::play(&mut stage),
         _ => wrapper::play(&mut stage),
     }
 }

@@ -54,6 +54,24 @@ pub fn spoil(random: &mut Random, pair: &mut Pair, call: &mut ReadCall) -> Spoil
     spoilt
 }
 
+/// The same of what an opening looks at: set-up and frame alone.
+pub fn spoil_frame(random: &mut Random, call: &mut ReadCall) -> Spoilt {
+    let mut spoilt = Spoilt::default();
+    let causes = if random.once_in(5) { 2 } else { 1 };
+    for _ in 0..causes {
+        match random.below(12) {
+            0 => wrong_set_up(random, call, &mut spoilt),
+            1 => wrong_length(random, call, &mut spoilt),
+            2 => damage(random, &mut call.frame),
+            _ => wrong_header(random, call, &mut spoilt),
+        }
+    }
+    if causes == 2 {
+        (1..=12).for_each(|number| spoilt.aim(number, Item::OpenTwoCauses));
+    }
+    spoilt
+}
+
 fn one(random: &mut Random, pair: &mut Pair, call: &mut ReadCall, spoilt: &mut Spoilt) {
     match random.below(16) {
         0 => wrong_set_up(random, call, spoilt),

@@ -2,7 +2,8 @@
 
 use crate::boundary::{Boundary, ReadLent};
 use crate::calls::{
-    hex, octets_of, Checked, Read, ReadCall, WriteCall, Written, OUTPUT, PART, STORE,
+    hex, octets_of, Checked, CloseCall, Closed, OpenCall, Opened, Read, ReadCall, WriteCall,
+    Written, OUTPUT, PART, STORE,
 };
 use crate::lent::Lent;
 use crate::random::Random;
@@ -262,6 +263,79 @@ impl<'a> Pair<'a> {
         text
     }
 
+    pub fn open(&mut self, call: &OpenCall) -> Checked<Opened> {
+        self.calls += 1;
+        let mut numbers = [0; 2];
+        let n = call.frame.len();
+        self.before.frame.put(0, &call.frame);
+        for (i, side) in [&mut self.a, &mut self.b].into_iter().enumerate() {
+            side.frame.put(0, &call.frame);
+            side.answer.lend(ANSWER_ROOM).fill(BLANK);
+            let answer = side.answer.lend(call.answer_words);
+            numbers[i] = [self.left, self.right][i].open(call.set_up, side.frame.look(n), answer);
+        }
+        let found = [
+            ("the answer", self.a.answer.differs(&self.b.answer)),
+            ("the frame, which is not to be written,", self.a.frame.differs(&self.before.frame)),
+            ("the frame, which is not to be written,", self.b.frame.differs(&self.before.frame)),
+        ];
+        if let Some(what) = difference(numbers, found) {
+            return Err(self.told_open(call, &what));
+        }
+        let whole = call.answer_words >= 14;
+        let words = whole.then(|| self.a.answer.look(14).try_into().ok()).flatten();
+        Ok(Opened { number: numbers[0], words })
+    }
+
+    fn told_open(&self, call: &OpenCall, what: &str) -> String {
+        let mut text = format!("an opening differs in {what}\n");
+        let _ = writeln!(text, "  set-up {:?}, frame {}", call.set_up, hex(&call.frame));
+        for (name, side) in [("left", &self.a), ("right", &self.b)] {
+            let _ = writeln!(text, "  {name} answers {:?}", side.answer.look(call.answer_words));
+        }
+        text
+    }
+
+    /// Lays octets into the output of the closing that follows.
+    pub fn lay(&mut self, octets: &[u8]) {
+        for side in [&mut self.a, &mut self.b, &mut self.before] {
+            side.frame.put(0, octets);
+        }
+    }
+
+    /// Closes over the octets that the output holds.
+    pub fn close(&mut self, call: &CloseCall) -> Checked<Closed> {
+        self.calls += 1;
+        let mut numbers = [0; 2];
+        for (i, side) in [&mut self.a, &mut self.b].into_iter().enumerate() {
+            let output = side.frame.lend(call.output_octets);
+            numbers[i] = [self.left, self.right][i].close(call.set_up, &call.numbers, output);
+        }
+        let refused = numbers[0] != 0;
+        let changed = || refused.then(|| self.a.frame.differs(&self.before.frame)).flatten();
+        let found = [
+            ("the output", self.a.frame.differs(&self.b.frame)),
+            ("the output after a refusal", changed()),
+        ];
+        if let Some(what) = difference(numbers, found) {
+            return Err(self.told_close(call, &what));
+        }
+        let n = call.output_octets;
+        let before = self.before.frame.look(n).to_vec();
+        let after = self.a.frame.look(n).to_vec();
+        self.before.frame.put(0, &after);
+        Ok(Closed { number: numbers[0], before, after })
+    }
+
+    fn told_close(&self, call: &CloseCall, what: &str) -> String {
+        let mut text = format!("a closing differs in {what}\n  {call:?}\n");
+        let sides = [("before", &self.before), ("left", &self.a), ("right", &self.b)];
+        for (name, side) in sides {
+            let _ = writeln!(text, "  {name} {}", hex(side.frame.look(call.output_octets)));
+        }
+        text
+    }
+
     pub fn busy(&mut self, words: &[u32], answer_words: usize) -> Checked<u32> {
         self.calls += 1;
         let mut masks = [0; 2];
@@ -292,4 +366,16 @@ impl<'a> Pair<'a> {
         }
         Ok(left)
     }
+}
+
+/// The first thing that differs, the numbers before all else.
+fn difference<const N: usize>(
+    numbers: [u32; 2],
+    found: [(&str, Option<isize>); N],
+) -> Option<String> {
+    if numbers[0] != numbers[1] {
+        return Some(format!("the number: {} and {}", numbers[0], numbers[1]));
+    }
+    let first = found.into_iter().find_map(|(name, place)| Some((name, place?)));
+    first.map(|(name, place)| format!("{name} at {place}"))
 }

@@ -1,6 +1,6 @@
 //! The comparison bites: each impostor is `plain` with one thing wrong, and is found out.
 
-use trial::boundary::{Boundary, Plain, ReadLent, SetUpWords, WriteNumbers};
+use trial::boundary::{Boundary, CloseNumbers, Plain, ReadLent, SetUpWords, WriteNumbers};
 use trial::differ::{run, Plan};
 
 /// What an impostor does wrong.
@@ -35,6 +35,14 @@ enum Wrong {
     SwapsCounts,
     /// Lets a left-over stand anywhere.
     LeftOver,
+    /// Opens the data field at octet 6, secondary header or not.
+    OpensAtSix,
+    /// On a refused opening leaves the words after the number as they were.
+    LeavesWords,
+    /// Lets a pointer of more than 11 bits run over into the flags.
+    PointerRunsOver,
+    /// Writes a control word that was not asked for.
+    WordUnasked,
     /// Calls a channel that skips 0 octets idle.
     Busy,
     /// Starts the register at zero when there are no octets.
@@ -43,7 +51,7 @@ enum Wrong {
 
 use Wrong::*;
 
-const ALL: [Wrong; 16] = [
+const ALL: [Wrong; 20] = [
     DamagedIsGood,
     Order,
     InventedCount,
@@ -58,6 +66,10 @@ const ALL: [Wrong; 16] = [
     WritesPointer,
     SwapsCounts,
     LeftOver,
+    OpensAtSix,
+    LeavesWords,
+    PointerRunsOver,
+    WordUnasked,
     Busy,
     Syndrome,
 ];
@@ -116,6 +128,31 @@ impl Boundary for Impostor {
         number
     }
 
+    fn open(&self, set_up: SetUpWords, frame: &[u8], answer: &mut [u32]) -> u32 {
+        let kept = answer.to_vec();
+        let number = Plain.open(set_up, frame, answer);
+        match self.0 {
+            OpensAtSix if number == 0 && answer.len() > 12 => answer[12] = 6,
+            LeavesWords if number != 0 && !kept.is_empty() => {
+                answer[1..].copy_from_slice(&kept[1..]);
+            }
+            _ => {}
+        }
+        number
+    }
+
+    fn close(&self, set_up: SetUpWords, given: &CloseNumbers, output: &mut [u8]) -> u32 {
+        let mut numbers = *given;
+        if self.0 == WordUnasked && given.word != 0 {
+            numbers.has_word = 1;
+        }
+        let number = Plain.close(set_up, &numbers, output);
+        if self.0 == PointerRunsOver && number == 0 && set_up[2] == 0 {
+            output[4] |= (given.pointer >> 8) as u8;
+        }
+        number
+    }
+
     fn busy(&self, record: &[u32], answer: &mut [u32]) -> u32 {
         let mut record = record.to_vec();
         if self.0 == Busy && record.len() >= 4 && record[2] == 2 && record[3] == 0 {
@@ -155,9 +192,19 @@ fn every_impostor_is_found_out() {
 #[test]
 fn two_of_the_same_kind_are_found_out() {
     let plan = Plan { calls: 60_000, ..Plan::default() };
-    for wrong in
-        [TouchesOutput, TouchesStore, OctetAfter, OtherChannel, NoGap, AnyRecord, WritesPointer]
-    {
+    for wrong in [
+        TouchesOutput,
+        TouchesStore,
+        OctetAfter,
+        OtherChannel,
+        NoGap,
+        AnyRecord,
+        WritesPointer,
+        OpensAtSix,
+        LeavesWords,
+        PointerRunsOver,
+        WordUnasked,
+    ] {
         let outcome = run(&Impostor(wrong), &Impostor(wrong), &plan);
         assert!(outcome.difference.is_some(), "two of {wrong:?} were not found out");
     }

@@ -15,7 +15,7 @@ pub fn play(stage: &mut Stage) -> Checked<()> {
             numbers = set_up(&mut stage.random);
         }
         let octets = match stage.random.below(6) {
-            0 => random_frame(stage, numbers),
+            0 => random_frame(&mut stage.random, numbers),
             _ => aimed_frame(stage, numbers),
         };
         let mut call = ReadCall::new(numbers, octets);
@@ -33,8 +33,7 @@ pub fn play(stage: &mut Stage) -> Checked<()> {
 }
 
 /// Random octets; the spacecraft and the check are put right most times.
-fn random_frame(stage: &mut Stage, [length, spacecraft, control]: [u32; 3]) -> Vec<u8> {
-    let random = &mut stage.random;
+pub fn random_frame(random: &mut Random, [length, spacecraft, control]: [u32; 3]) -> Vec<u8> {
     let mut octets = random.octets(length as usize);
     if !random.once_in(8) {
         octets[0] = octets[0] & 0xC0 | (spacecraft >> 4) as u8;

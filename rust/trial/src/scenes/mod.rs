@@ -1,5 +1,6 @@
 //! What is played, episode by episode.
 
+pub mod frame_part;
 pub mod lone;
 pub mod small;
 pub mod stream;

@@ -1,14 +1,14 @@
-//! The safe wrapper's desk against `plain`, saved and loaded on the way.
+//! The safe wrapper against `plain`: its desk, saved and loaded on the way, and its frame part.
 
 use super::Stage;
-use crate::boundary::{Boundary, Plain, WriteNumbers};
+use crate::boundary::{Boundary, CloseNumbers, Plain, WriteNumbers};
 use crate::calls::{hex, Checked, OUTPUT, STORE};
 use crate::cover::Item;
 use crate::make::{packet, set_up};
 use crate::random::Random;
 use crate::sender::Sender;
 use plain::words;
-use scowdeck::{ChannelCount, Desk, MasterCount, Place, Report, SetUp, Writing};
+use scowdeck::{ChannelCount, Closing, Desk, MasterCount, Opened, Place, Report, SetUp, Writing};
 
 /// The memory of `plain`.
 struct Mirror {
@@ -48,11 +48,13 @@ pub fn play(stage: &mut Stage) -> Checked<()> {
         let mut frame = sent.frame.octets(control != 0);
         alter(&mut stage.random, &mut frame);
         one_frame(stage, &mut desk, &mut mirror, &frame)?;
+        open(stage, &set_up, &frame)?;
         if stage.random.once_in(8) {
             desk = reloaded(stage, &desk, &mirror)?;
         }
         if stage.random.once_in(4) {
             write(stage, &desk, numbers)?;
+            close(stage, &set_up)?;
         }
     }
     Ok(())
@@ -176,5 +178,80 @@ fn write(stage: &mut Stage, desk: &Desk, set_up: [u32; 3]) -> Checked<()> {
         ));
     }
     stage.table.hit_if(number == 0, Item::DeskWritten);
+    Ok(())
+}
+
+fn open(stage: &mut Stage, set_up: &SetUp, frame: &[u8]) -> Checked<()> {
+    stage.pair.calls += 1;
+    let control = u32::from(set_up.error_control);
+    let mut answer = [0; 14];
+    let number = Plain.open([set_up.length, set_up.spacecraft, control], frame, &mut answer);
+    let same = match scowdeck::open(set_up, frame) {
+        Err(refusal) => refusal.number() == number,
+        Ok(opened) => {
+            let place = opened.data_place;
+            opened_words(&opened) == answer
+                && frame[place..place + opened.data.len()] == *opened.data
+        }
+    };
+    stage.table.hit(if number == 0 { Item::WrapperOpened } else { Item::WrapperNotOpened });
+    if same {
+        return Ok(());
+    }
+    Err(format!("the wrapper's opening differs, {answer:?} by plain, on {}\n", hex(frame)))
+}
+
+fn opened_words(opened: &Opened) -> [u32; 14] {
+    [
+        0,
+        u32::from(opened.spacecraft),
+        u32::from(opened.channel),
+        u32::from(opened.control_word.is_some()),
+        u32::from(opened.master_count.0),
+        u32::from(opened.channel_count.0),
+        u32::from(opened.secondary_header),
+        u32::from(opened.synchronisation),
+        u32::from(opened.order),
+        u32::from(opened.segment),
+        u32::from(opened.pointer),
+        opened.control_word.unwrap_or(0),
+        opened.data_place as u32,
+        opened.data.len() as u32,
+    ]
+}
+
+/// A closing over a data field in the place that the wrapper tells; now and then one that is refused.
+fn close(stage: &mut Stage, set_up: &SetUp) -> Checked<()> {
+    stage.pair.calls += 1;
+    let random = &mut stage.random;
+    let closing = Closing {
+        channel: random.below(9) as u32,
+        master_count: MasterCount(random.octet()),
+        channel_count: ChannelCount(random.octet()),
+        control_word: random.once_in(2).then(|| random.half()),
+        pointer: random.half() >> random.pick(&[0, 21]),
+    };
+    let numbers = CloseNumbers {
+        channel: closing.channel,
+        master_count: closing.master_count.0,
+        channel_count: closing.channel_count.0,
+        has_word: u32::from(closing.control_word.is_some()),
+        word: closing.control_word.unwrap_or(0),
+        pointer: closing.pointer,
+    };
+    let field = set_up.data_field(closing.control_word.is_some());
+    let mut left = vec![0xEE; set_up.length as usize];
+    random.fill(&mut left[field.clone()]);
+    let (laid, mut right) = (left[field.clone()].to_vec(), left.clone());
+    let control = u32::from(set_up.error_control);
+    let result = scowdeck::close(set_up, &closing, &mut left);
+    let number = Plain.close([set_up.length, set_up.spacecraft, control], &numbers, &mut right);
+    let ends = set_up.length as usize
+        == field.end + [0, 4][numbers.has_word as usize] + 2 * control as usize;
+    let said = result.map_or_else(|refusal| refusal.number(), |()| 0);
+    if said != number || left != right || left[field] != laid || !ends {
+        return Err(format!("the wrapper's closing differs: {closing:?}, {said} and {number}\n"));
+    }
+    stage.table.hit(if said == 0 { Item::WrapperClosed } else { Item::WrapperNotClosed });
     Ok(())
 }

@@ -1,7 +1,7 @@
 //! Plays the script of `crates/vectors` over the boundary. Lines about parts that the boundary does not show
 //! print nothing.
 
-use trial::boundary::{Boundary, ReadLent, WriteNumbers};
+use trial::boundary::{Boundary, CloseNumbers, ReadLent, WriteNumbers};
 use trial::calls::{hex, PART};
 
 const STORE_ROOM: usize = 32_769;
@@ -84,6 +84,9 @@ const READ_NAMES: [&str; 20] = [
     "oversize",
 ];
 
+/// Of an opening: the ten header values and the word as in a reading, then place and size of the data field.
+const OPEN_NAMES: [&str; 2] = ["place", "size"];
+
 impl<'a> Script<'a> {
     pub fn new(with: &'a dyn Boundary) -> Script<'a> {
         let numbers = WriteNumbers {
@@ -126,6 +129,12 @@ impl<'a> Script<'a> {
                 let frame = self.written.clone();
                 Some(self.read("back", self.set_up, &frame))
             }
+            "open" => {
+                let set_up = words.numbers();
+                let frame = words.octets();
+                Some(self.open(set_up, &frame))
+            }
+            "close" => Some(self.close(&mut words)),
             "busy" => Some(self.busy()),
             "write" => Some(self.write(&mut words)),
             "again" => Some(self.next_frame("again", words.numbers())),
@@ -218,6 +227,32 @@ impl<'a> Script<'a> {
         let stray = |i: &usize| self.store[*i] != store[*i] && !held.contains(i);
         let strays = (0..STORE_ROOM).filter(stray).count();
         line + &format!(" others={others} strays={strays}")
+    }
+
+    fn open(&self, set_up: [u32; 3], frame: &[u8]) -> String {
+        let mut answer = [9; 14];
+        let number = self.with.open(set_up, frame, &mut answer);
+        assert_eq!(number, answer[0]);
+        let names = READ_NAMES[..1].iter().chain(&READ_NAMES[2..13]).chain(&OPEN_NAMES);
+        names
+            .zip(answer)
+            .fold("open".to_string(), |line, (name, word)| line + &format!(" {name}={word}"))
+    }
+
+    fn close(&self, words: &mut Words) -> String {
+        let set_up = words.numbers();
+        let [channel, master, count, has_word, word, pointer] = words.numbers();
+        let numbers = CloseNumbers {
+            channel,
+            master_count: master as u8,
+            channel_count: count as u8,
+            has_word,
+            word,
+            pointer,
+        };
+        let mut output = words.octets();
+        let number = self.with.close(set_up, &numbers, &mut output);
+        format!("close number={number} output={}", spelt(&output))
     }
 
     fn busy(&self) -> String {

@@ -6,7 +6,8 @@ use trial::make::{mend, packet, packet_octets, set_up};
 use trial::random::Random;
 use trial::sender::Sender;
 
-/// So many episodes: some of frames that are read, some of runs that are written and read back.
+/// So many episodes: some of frames that are opened and read, some of runs that are written and read back, and
+/// a few closings after each.
 pub fn script(seed: u64, episodes: usize) -> String {
     let mut random = Random::new(seed);
     let mut text = String::new();
@@ -18,6 +19,7 @@ pub fn script(seed: u64, episodes: usize) -> String {
         } else {
             reading(&mut random, &mut text);
         }
+        closing(&mut random, &mut text);
     }
     text
 }
@@ -47,7 +49,8 @@ fn reading(random: &mut Random, text: &mut String) {
             4 => continue,
             _ => {}
         }
-        let _ = writeln!(text, "read {length} {spacecraft} {control} {}", hex(&frame));
+        let given = format!("{length} {spacecraft} {control} {}", hex(&frame));
+        let _ = writeln!(text, "open {given}\nread {given}");
     }
     text.push_str("busy\n");
 }
@@ -81,5 +84,19 @@ fn writing(random: &mut Random, text: &mut String) {
     let _ = writeln!(text, "write {first} 0 0 {offset} {left} {length}");
     for _ in 0..6 {
         let _ = writeln!(text, "back\nagain {} {}", random.below(2), random.half());
+    }
+}
+
+fn closing(random: &mut Random, text: &mut String) {
+    let [length, spacecraft, control] = set_up(random);
+    for _ in 0..4 {
+        let short = random.pick(&[0, 0, 0, 0, 1]);
+        let octets = random.octets(length as usize - short);
+        let channel = random.pick(&[0, 1, 2, 3, 4, 5, 6, 7, 8]);
+        let (master, count) = (random.octet(), random.octet());
+        let (has_word, word) = (random.below(2), random.half());
+        let pointer = random.half() >> random.pick(&[0, 10, 21, 21]);
+        let given = format!("{length} {spacecraft} {control} {channel} {master} {count}");
+        let _ = writeln!(text, "close {given} {has_word} {word} {pointer} {}", hex(&octets));
     }
 }
