@@ -14,14 +14,23 @@ from pathlib import Path
 ROOT = Path(sys.argv[1] if len(sys.argv) > 1 else __file__).resolve()
 ROOT = ROOT if ROOT.is_dir() else ROOT.parent.parent
 
-# Libraries without operations of the paper: theorems alone, and a part of the program (docs/PROMISES.md says why).
-APART = {"demands", "desk"}
+# Libraries without operations of the paper: theorems alone, and parts of the program (docs/PROMISES.md says why).
+APART = {"demands", "read_back", "nothing_glued", "bench", "one_answer", "desk", "lines", "files", "keeping"}
 # Decision 15: parts that ask something of their arguments.
 PARTS = {
-    "octets": {"octet", "octet_across", "number16", "number32", "put16", "put32", "copy", "fill"},
-    "packet": {"header.Header.of", "source.Packet.idle", "source.Packet.idle_across", "source.Packet.total", "distance"},
+    "octets": {"octet", "octet_across", "copy", "fill"},
+    "numbers": {"number16", "number32", "put16", "put32"},
+    "frame": {"data_size"},
+    "packet": {"header.Header.of", "source.Packet.idle", "source.Packet.idle_across", "source.Packet.total"},
+    "chain": {"distance"},
     "channel": {"store.Store.place"},
-    "walk": {"walk", "steps"},
+    "walk": {"walk"},
+    "gathering": {"settle", "hunt", "gather"},
+    "steps": {"steps"},
+    "accepting": {"accept"},
+    "laying": {"lay", "pointer"},
+    "host_words": {"pack"},
+    "host_answers": {"answer_read", "answer_write"},
 }
 
 FUNCTION = re.compile(r'^( *)pub (?:extern "C" )?fn (\w+)\(((?:[^()]|\(\))*)\)((?:.|\n)*?)\{\n', re.M)
@@ -57,7 +66,7 @@ def operations(crate, wrong):
             exported = text[: m.start()].rstrip().endswith("#[no_mangle]")
             if inside:
                 kind = re.findall(r"^impl (\w+) \{", text[: m.start()], re.M)[-1]
-                name = f"{homes[kind]}.{kind}.{name}"
+                name = f"{kind}.{name}" if homes[kind] == "lib" else f"{homes[kind]}.{kind}.{name}"
             elif not (path.name == "lib.rt" or name in passed_on or exported):
                 continue
             each = [p.strip() for p in re.split(r",(?![^<\[]*[>\]])", params) if p.strip()]
@@ -77,7 +86,7 @@ def expected(alias, lent, part):
 
 
 def main():
-    text = (ROOT / "crates/demands/specs/OneAnswer.antt").read_text()
+    text = (ROOT / "crates/one_answer/specs/OneAnswer.antt").read_text()
     cited = {(m[0], m[1]): m[2] for m in re.findall(r"^use Rattle·(\w+)\.proofs\.([\w.]+) as ([\w-]+)$", text, re.M)}
     body = text[text.index("pub record OneAnswer") :]
     fields = {}

@@ -18,7 +18,7 @@ use Rattle.packet.specs.declared.source.Size.{Size}
 use Rattle.packet.specs.declared.source.Size.the-variants.{Wait, Foreign, Total}
 use Rattle.channel.specs.declared.state.Channel.{Channel}
 use Rattle.channel.specs.declared.state.State.{State}
-use Rattle.channel.specs.declared.state.State.the-variants.{Gathering, Skipping}
+use Rattle.channel.specs.declared.state.State.the-variants.{Hunting, Gathering, Skipping}
 use Rattle.channel.specs.Rules.{judged, stateFollows, hunts, channelFollows, allFollow, recordFollows}
 use Rattle.channel.specs.State.{freshChannel}
 use Rattle.channel.specs.Store.{partPlace, partOf}
@@ -52,6 +52,25 @@ module _ (limit k n : ℕ) {s : Size} (e : s ≡ Total n) where
   pub total-not-above : n ≤ k → false ≡ judged limit k s
   unfolding judged
   total-not-above h = rw (e, le-ltb k n h)
+
+-- a heard channel keeps the rules by its state, and an unheard one by hunting
+module _ (F : Family) (limit : ℕ) (part : List ℕ) (c : Channel) where
+  pub heard-follows : c .heard ≡ true → stateFollows F limit part (c .state) ≡ channelFollows F limit part c
+  unfolding channelFollows
+  heard-follows h = rw h
+
+  module _ (h : c .heard ≡ false) where
+    pub unheard-hunting : c .state ≡ Hunting → true ≡ channelFollows F limit part c
+    unfolding channelFollows hunts
+    unheard-hunting e = rw (h, e)
+
+    pub unheard-gathering : (k : ℕ) → c .state ≡ Gathering k → false ≡ channelFollows F limit part c
+    unfolding channelFollows hunts
+    unheard-gathering k e = rw (h, e)
+
+    pub unheard-skipping : (r : ℕ) → c .state ≡ Skipping r → false ≡ channelFollows F limit part c
+    unfolding channelFollows hunts
+    unheard-skipping r e = rw (h, e)
 
 -- what the rules say of k octets gathered, and what makes them kept
 module _ (F : Family) (limit : ℕ) (part : List ℕ) (k : ℕ) where

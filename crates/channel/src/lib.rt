@@ -1,11 +1,9 @@
 // The record of the eight channels: their states, the rules of a record, the store's parts, the busy mask.
 mod busy;
-mod rules;
 mod state;
 mod store;
 
 pub use busy::busy_state;
-pub use rules::follows;
 pub use state::Channel;
 pub use state::Record;
 pub use state::State;

@@ -26,13 +26,13 @@ use Rattle.channel.specs.Store.{storeFits, outputFits, partPlace, partOf, withP
 use Rattle.channel.specs.declared.state.Record.{Record}
 use Rattle.channel.proofs.Laws.{part-own}
 use Rattle.channel.proofs.PartLaws.{apart}
-use Rattle.reader.specs.declared.reading.Answer.the-variants.{Accepted}
-use Rattle.reader.specs.Reading.{readTableOver, recordOver, storeOver, channelOf, doneBy, reportOf, recordAfter, storeAfter, outputAfter, ReadOver}
+use Rattle.reading.specs.declared.Answer.the-variants.{Accepted}
+use Rattle.reading.specs.Reading.{readTableOver, recordOver, storeOver, channelOf, doneBy, reportOf, recordAfter, storeAfter, outputAfter, ReadOver}
 use Rattle.walk.specs.Walk.{Done}
-use Rattle.reader.specs.Theorems.{Keeps}
+use Rattle.reading.specs.Theorems.{Keeps}
 use Rattle.walk.specs.Theorems.{Roomy}
-use Rattle.reader.proofs.Laws.{accepted-keeps, store-octets, refused-untouched, others-apart}
-use Rattle.reader.proofs.ReadLaws.{at-none, accepts}
+use Rattle.reading.proofs.Laws.{accepted-keeps, store-octets, refused-untouched, others-apart}
+use Rattle.reading.proofs.ReadLaws.{at-none, accepts}
 use Rattle.demands.specs.History.{Harmless, carried}
 
 -- the kept record and store pass tests 2 and 4

@@ -2,8 +2,8 @@
 -- Assumes nothing.
 use Rattle.packet.specs.Size.{most, source}
 use Rattle.frame.proofs.Laws as frame
-use Rattle.reader.proofs.Laws as reader
-use Rattle.writer.proofs.Laws as writer
+use Rattle.reading.proofs.Laws as reader
+use Rattle.writing.proofs.Laws as writer
 use Rattle.demands.specs.Demand1.{Demand1}
 
 pub demand1 : Demand1

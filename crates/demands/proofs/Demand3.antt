@@ -19,7 +19,7 @@ use Rattle.channel.specs.State.{freshChannel, freshRecord}
 use Rattle.channel.specs.declared.state.Channel.{Channel}
 use Rattle.channel.specs.declared.state.Record.{Record}
 use Rattle.channel.proofs.Laws.{fresh-follows}
-use Rattle.reader.specs.Reading.{recordOver, storeOver}
+use Rattle.reading.specs.Reading.{recordOver, storeOver}
 use Rattle.demands.specs.Demand3.{Demand3Over, Demand3-general, Demand3, Demand3-freshOver, Demand3-fresh}
 use Rattle.demands.specs.Demand3.{Demand3-together-general, Demand3-together, Demand3-together-freshOver, Demand3-together-fresh}
 use Rattle.demands.specs.History.{Event, Allowed, Delivers, carried}

@@ -3,7 +3,7 @@
 use native.Mathlib.Omega.{arith}
 use Rattle.packet.specs.Size.{most, source}
 use Rattle.packet.proofs.Laws.{source-lawful}
-use Rattle.reader.proofs.Laws.{few-enough as bound}
+use Rattle.reading.proofs.Laws.{few-enough as bound}
 use Rattle.demands.specs.FewEnough.{FewEnough}
 
 pub few-enough : FewEnough

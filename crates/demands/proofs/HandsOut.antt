@@ -16,10 +16,10 @@ use Rattle.packet.specs.Family.{Family, Lawful, Whole, AllWhole}
 use Rattle.packet.specs.Theorems.{endToEnd}
 use Rattle.frame.specs.declared.set_up.SetUp.{SetUp}
 use Rattle.channel.specs.declared.state.Record.{Record}
-use Rattle.reader.specs.Reading.{recordOver, storeOver}
-use Rattle.reader.specs.declared.reading.Answer.{Answer}
-use Rattle.reader.specs.declared.reading.Answer.the-variants.{Accepted}
-use Rattle.reader.specs.declared.reading.Report.{Report}
+use Rattle.reading.specs.Reading.{recordOver, storeOver}
+use Rattle.reading.specs.declared.Answer.{Answer}
+use Rattle.reading.specs.declared.Answer.the-variants.{Accepted}
+use Rattle.reading.specs.declared.Report.{Report}
 use Rattle.demands.specs.History.{Event, Delivers, allArrived, arrivedWhole, brought, cameAfter, carried, deliveredOf, handedOut}
 use Rattle.demands.specs.History.{lastIn, packetsIn, wanted}
 use Rattle.demands.specs.History.Event.{lost, arrives, other}

@@ -23,10 +23,10 @@ use Rattle.channel.specs.Store.{partOf}
 use Rattle.channel.specs.declared.state.Channel.{Channel}
 use Rattle.channel.specs.declared.state.Record.{Record}
 use Rattle.channel.proofs.Laws.{each-follows}
-use Rattle.reader.specs.Reading.{fieldOf, channelOf, doneBy, reportOf, recordOver, storeOver, outputAfter}
+use Rattle.reading.specs.Reading.{fieldOf, channelOf, doneBy, reportOf, recordOver, storeOver, outputAfter}
 use Rattle.walk.specs.Steps.{courseOf, stepsOf, calledAt}
 use Rattle.walk.specs.Walk.{Done, noTally}
-use Rattle.reader.proofs.Laws.{refused-untouched}
+use Rattle.reading.proofs.Laws.{refused-untouched}
 use Rattle.demands.specs.History.{Harmless, Refuses, Call, brought, carried, mostMissing, wanted, unwanted}
 use Rattle.demands.specs.Sender.{Mark, Sent, Sends, octetsMarked, firstStart, between, inner, marksOfAll}
 use Rattle.demands.specs.Sender.Sends.{packets, idle}

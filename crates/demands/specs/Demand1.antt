@@ -2,8 +2,8 @@
 -- theorem of the crate that it is about; the proof is in proofs/Demand1.antt.
 use Rattle.packet.specs.Size.{most, source}
 use Rattle.frame.specs.Theorems as frame
-use Rattle.reader.specs.Theorems as reader
-use Rattle.writer.specs.Theorems as writer
+use Rattle.reading.specs.Theorems as reader
+use Rattle.writing.specs.Theorems as writer
 
 pub record Demand1 : Type 0 where
   -- reading: a number is given exactly when its cause holds and no earlier one does; a frame is accepted exactly when no cause holds

@@ -6,10 +6,10 @@ use Prim.Native.Nat.{ℕ, _+_, _/_, _≤_}
 use Rattle.frame.specs.Opening.{frameOf}
 use Rattle.frame.specs.declared.set_up.SetUp.{SetUp}
 use Rattle.channel.specs.declared.state.Record.{Record}
-use Rattle.reader.specs.Reading.{answerOf}
-use Rattle.reader.specs.Theorems.{skipEnded}
-use Rattle.reader.specs.declared.reading.Answer.the-variants.{Accepted}
-use Rattle.reader.specs.declared.reading.Report.{Report}
+use Rattle.reading.specs.Reading.{answerOf}
+use Rattle.reading.specs.Theorems.{skipEnded}
+use Rattle.reading.specs.declared.Answer.the-variants.{Accepted}
+use Rattle.reading.specs.declared.Report.{Report}
 
 -- delivered plus idle, plus 1 if a skip ended, is at most D / 7 rounded up
 abbrev pub FewEnough : Type 0

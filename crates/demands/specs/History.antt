@@ -17,11 +17,11 @@ use Rattle.frame.specs.Opening.{frameOf, idleData}
 use Rattle.frame.specs.SetUp.{mostLength}
 use Rattle.frame.specs.declared.set_up.SetUp.{SetUp}
 use Rattle.channel.specs.declared.state.Record.{Record}
-use Rattle.reader.specs.Reading.{answerOver, recordOver, storeOver, outputOver}
-use Rattle.reader.specs.declared.reading.Answer.{Answer}
-use Rattle.reader.specs.declared.reading.Answer.the-variants.{Refused, Accepted}
-use Rattle.reader.specs.declared.reading.Refusal.{Refusal}
-use Rattle.reader.specs.declared.reading.Report.{Report}
+use Rattle.reading.specs.Reading.{answerOver, recordOver, storeOver, outputOver}
+use Rattle.reading.specs.declared.Answer.{Answer}
+use Rattle.reading.specs.declared.Answer.the-variants.{Refused, Accepted}
+use Rattle.reading.specs.declared.Refusal.{Refusal}
+use Rattle.reading.specs.declared.Report.{Report}
 
 -- what another call is lent: the kept record and the kept store, the kept record with this other store, or the kept store with this other
 -- record; a call that is lent neither leaves both as they are

@@ -1,11 +1,5 @@
-pub mod Bench
 pub mod Demand1
-pub mod Demand2
 pub mod Demand3
 pub mod FewEnough
 pub mod History
-pub mod NothingGlued
-pub mod OneAnswer
 pub mod Sender
-pub mod Witness
-pub mod WriterSends

@@ -11,7 +11,7 @@ use Rattle.frame.specs.Opening.{openOf, idleData, noneStarts}
 use Rattle.frame.specs.declared.opening.Frame.{Frame}
 use Rattle.frame.specs.declared.opening.Opened.{Opened}
 use Rattle.frame.specs.declared.set_up.SetUp.{SetUp}
-use Rattle.reader.specs.Reading.{fieldOf}
+use Rattle.reading.specs.Reading.{fieldOf}
 
 -- an octet that is sent, and whether it is the first of a packet
 pub record Mark : Type 0 where

@@ -3,7 +3,7 @@
 use mathlib.Core.Path.{_≡_, _∙_, sym, ap, ap₂}
 use Prim.Native.Nat.{ℕ}
 use Rattle.channel.specs.declared.state.Record.{Record}
-use Rattle.reader.specs.declared.reading.Answer.{Answer}
+use Rattle.reading.specs.declared.Answer.{Answer}
 use Rattle.desk.specs.Counting.{totalsAfter}
 use Rattle.desk.specs.Saving.{octetsOf}
 use Rattle.desk.specs.Theorems.{Take-once}

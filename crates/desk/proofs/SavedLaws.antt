@@ -25,10 +25,10 @@ use Rattle.walk.specs.Steps.{broke, disagreed, agrees, calledAt, hunted, gather
 use Rattle.walk.specs.Walk.{walkOf, handed, handedAll, noTally, oneIdle, oneDelivered, tallied, talliedAll, Done, only, endedBy, ended}
 use Rattle.walk.specs.declared.walking.End.{End}
 use Rattle.walk.specs.declared.walking.Tally.{Tally}
-use Rattle.reader.specs.Reading.{channelOf, doneBy, reportOf, outputAfter}
+use Rattle.reading.specs.Reading.{channelOf, doneBy, reportOf, outputAfter}
 use Rattle.walk.proofs.WalkLaws.{walk-ind, walk-stop, walk-whole, seen-whole}
-use Rattle.reader.proofs.ReadLaws.{found-none, leaves}
-use Rattle.reader.specs.declared.reading.Answer.the-variants.{Accepted}
+use Rattle.reading.proofs.ReadLaws.{found-none, leaves}
+use Rattle.reading.specs.declared.Answer.the-variants.{Accepted}
 use Rattle.desk.specs.Saving.{spanOf, octetsOf}
 use Rattle.desk.specs.Theorems.{Saved-exactly}
 

@@ -8,9 +8,9 @@ use lib.ListN.{length, length-drop, drop}
 use lib.Seq.{drop-drop}
 use Rattle.packet.specs.Chain.{frontOf}
 use Rattle.packet.proofs.ChainTurns.{stands}
-use Rattle.reader.specs.declared.reading.Answer.{Answer}
-use Rattle.reader.specs.declared.reading.Answer.the-variants.{Accepted}
-use Rattle.reader.specs.declared.reading.Report.{Report}
+use Rattle.reading.specs.declared.Answer.{Answer}
+use Rattle.reading.specs.declared.Answer.the-variants.{Accepted}
+use Rattle.reading.specs.declared.Report.{Report}
 use Rattle.desk.specs.Saving.{spanOf, octetsOf}
 
 pub front-fits : (d : List ℕ) → frontOf d ≤ length d

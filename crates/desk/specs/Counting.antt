@@ -3,9 +3,9 @@ use Prim.Native.Nat.{ℕ, _+_, min}
 use lib.Dec.{eqb, ltb}
 use lib.ListN.{getD, replicate, set}
 use Rattle.octets.specs.Pick.{pick}
-use Rattle.reader.specs.declared.reading.Answer.{Answer}
-use Rattle.reader.specs.declared.reading.Answer.the-variants.{Refused, Accepted}
-use Rattle.reader.specs.declared.reading.Report.{Report}
+use Rattle.reading.specs.declared.Answer.{Answer}
+use Rattle.reading.specs.declared.Answer.the-variants.{Refused, Accepted}
+use Rattle.reading.specs.declared.Report.{Report}
 use Rattle.desk.specs.declared.counting.Sums.{Sums}
 use Rattle.desk.specs.declared.counting.Totals.{Totals}
 

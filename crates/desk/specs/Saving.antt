@@ -3,8 +3,8 @@ use mathlib.Core.List.{List}
 use Prim.Native.Nat.{ℕ, zero, suc, _+_}
 use lib.ListN.{drop}
 use Rattle.packet.specs.Chain.{frontOf}
-use Rattle.reader.specs.declared.reading.Answer.{Answer}
-use Rattle.reader.specs.declared.reading.Answer.the-variants.{Refused, Accepted}
+use Rattle.reading.specs.declared.Answer.{Answer}
+use Rattle.reading.specs.declared.Answer.the-variants.{Refused, Accepted}
 
 -- the octets that so many packets take, end to end from the first octet on
 unfoldable pub spanOf : ℕ → List ℕ → ℕ

@@ -8,11 +8,11 @@ use Rattle.packet.specs.Size.{most, source}
 use Rattle.frame.specs.Opening.{frameOf}
 use Rattle.frame.specs.declared.set_up.SetUp.{SetUp}
 use Rattle.channel.specs.declared.state.Record.{Record}
-use Rattle.reader.specs.Reading.{Read, doneBy}
+use Rattle.reading.specs.Reading.{Read, doneBy}
 use Rattle.walk.specs.Walk.{handedAll}
-use Rattle.reader.specs.declared.reading.Answer.{Answer}
-use Rattle.reader.specs.declared.reading.Answer.the-variants.{Accepted}
-use Rattle.reader.specs.declared.reading.Report.{Report}
+use Rattle.reading.specs.declared.Answer.{Answer}
+use Rattle.reading.specs.declared.Answer.the-variants.{Accepted}
+use Rattle.reading.specs.declared.Report.{Report}
 use Rattle.desk.specs.Counting.{totalsAfter}
 use Rattle.desk.specs.Saving.{octetsOf}
 use Rattle.desk.specs.declared.taking.Desk.{Desk}

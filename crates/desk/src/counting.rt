@@ -1,6 +1,6 @@
 // What is counted, channel by channel. A count that reaches the largest number stays there.
-use reader::Answer;
-use reader::Report;
+use reading::Answer;
+use reading::Report;
 ghost use mathlib.Core.Path.{_≡_};
 ghost use Prim.Native.Nat.{_+_, min};
 ghost use Rattle.desk.specs.Counting.{most, countedOf, gapCount, noTotals, totalsWith, totalsRefused, totalsAfter};

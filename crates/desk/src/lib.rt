@@ -1,5 +1,5 @@
-// What the program does with the frames of a recording, input and output aside: a word read as a number, one frame through the
-// reader's thin entry with its counts, and how many octets of the output are its packets.
+// What the program makes of the answer to a frame, input and output aside: a word read as a number, the counts, and how many octets
+// of the output are the frame's packets.
 mod counting;
 mod saving;
 mod taking;
@@ -7,9 +7,11 @@ mod words;
 
 pub use counting::Sums;
 pub use counting::Totals;
+pub use counting::after;
 pub use counting::more;
+pub use saving::Saved;
+pub use saving::octets_of;
 pub use taking::Desk;
 pub use taking::Taken;
-pub use taking::take;
 pub use words::Number;
 pub use words::spelt;

@@ -1,10 +1,16 @@
 // Which octets of the output are a frame's packets.
-use packet::front;
-use reader::Answer;
+use chain::front;
+use reading::Answer;
 ghost use mathlib.Core.Path.{_≡_};
 ghost use Prim.Native.Nat.{_≤_};
 ghost use lib.ListN.{length};
 ghost use Rattle.desk.specs.Saving.{spanOf, octetsOf};
+
+// How far a channel's file got: octets written, and whether a write failed.
+pub struct Saved {
+    pub octets: u64,
+    pub failed: bool,
+}
 
 // How many octets the first `count` packets take that stand end to end in the output.
 fn span(output: &[u8], count: usize) -> usize

@@ -4,15 +4,54 @@ use mathlib.Core.Path.{_≡_, refl, sym}
 use mathlib.Core.Bool.{Bool, true, false, not, _&&_, _||_}
 use mathlib.Core.List.{List}
 use mathlib.Core.Logic.{_⊎_, _↔_, inl, inr}
-use Prim.Native.Nat.{ℕ, _≤_, _<_}
+use Prim.Native.Nat.{ℕ, _+_, _≤_, _<_}
 use native.Mathlib.Omega.{arith}
 use lib.Dec.{eqb, ltb}
 use borrow.Author.Tests.{lt-ltb, le-ltb, eq-eqb, ne-eqb, eqb-true, ltb-true, not-false}
 use Rattle.crc.specs.Register.{syndromeOf}
+use Rattle.octets.specs.Layout.{valueIn}
+use Rattle.octets.specs.Numbers.{numberAt}
+use Rattle.frame.specs.Header.{secondaryHeader, lengthLessOne}
 use Rattle.frame.specs.declared.header.Header.{Header}
 use Rattle.frame.specs.declared.set_up.SetUp.{SetUp}
-use Rattle.frame.specs.Opening.{row6, row9, row11, row12, secondaryVersion, idleData, noneStarts}
+use Rattle.frame.specs.Opening.{row6, row9, row11, row12, secondaryVersion, secondarySize, wordOf, idleData, noneStarts}
 use Rattle.frame.specs.Theorems.{Points, Row12-exactly}
+
+-- row 6 is tested where error control is set up
+module _ (u : SetUp) (f : List ℕ) where
+  pub row6-tested : (s : ℕ) → u .«error_control» ≡ true → s ≡ syndromeOf f → not (eqb s 0) ≡ row6 u f
+  unfolding row6
+  row6-tested s h e = rw (h, e)
+
+  pub row6-passed : u .«error_control» ≡ false → false ≡ row6 u f
+  unfolding row6
+  row6-passed h = rw h
+
+-- row 9, the secondary header's size and the control word, each where its flag says that it is there and where not
+module _ (h : Header) (f : List ℕ) where
+  pub row9-tested : (v : ℕ) → h .secondary ≡ true → v ≡ secondaryVersion f → not (eqb v 0) ≡ row9 h f
+  unfolding row9
+  row9-tested v s e = rw (s, e)
+
+  pub row9-passed : h .secondary ≡ false → false ≡ row9 h f
+  unfolding row9
+  row9-passed s = rw s
+
+  pub size-there : (n : ℕ) → h .secondary ≡ true → n ≡ valueIn secondaryHeader f 6 lengthLessOne + 1 → n ≡ secondarySize h f
+  unfolding secondarySize
+  size-there n s e = rw (s, e)
+
+  pub size-none : h .secondary ≡ false → 0 ≡ secondarySize h f
+  unfolding secondarySize
+  size-none s = rw s
+
+  pub word-there : (end n : ℕ) → h .flagged ≡ true → n ≡ numberAt f end 4 → n ≡ wordOf h f end
+  unfolding wordOf
+  word-there end n s e = rw (s, e)
+
+  pub word-none : (end : ℕ) → h .flagged ≡ false → 0 ≡ wordOf h f end
+  unfolding wordOf
+  word-none end s = rw s
 
 module _ (h : Header) (D : ℕ) (s : h .synchronisation ≡ false) where
   -- a pointer below D passes

@@ -1,5 +1,2 @@
 pub mod Answer
-pub mod Busy
-pub mod Calls
 pub mod Theorems
-pub mod Words

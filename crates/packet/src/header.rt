@@ -41,9 +41,9 @@ impl Header {
             version: version(packet),
             type_bit: (first / 16 % 2) as u8,
             secondary: first / 8 % 2 == 1,
-            application: application(octets::number16(packet, 0)),
+            application: application(numbers::number16(packet, 0)),
             grouping: (third / 64) as u8,
-            sequence: octets::number16(packet, 2) % 16384,
+            sequence: numbers::number16(packet, 2) % 16384,
             total: Packet::total(packet),
         }
     }

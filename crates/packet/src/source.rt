@@ -59,7 +59,7 @@ impl Packet {
         requires { ⌜ 2 ≤ length (now packet) ⌝ }
         ensures { λ r. ⌜ r ≡ idleOf (now (packet .entry)) ⌝ }
     {
-        idle_by(octets::number16(packet, 0))
+        idle_by(numbers::number16(packet, 0))
     }
 
     // The same of octets that lie in two places: those held, and those that follow.
@@ -76,7 +76,7 @@ impl Packet {
         requires { ⌜ 6 ≤ length (now seen) ⌝ }
         ensures { λ r. ⌜ (r ≡ totalOf (now (seen .entry))) × (r ≤ formatMost) ⌝ }
     {
-        octets::number16(seen, 4) + Packet::LENGTH_BIAS
+        numbers::number16(seen, 4) + Packet::LENGTH_BIAS
     }
 
     // What the octets seen so far of a packet tell.

@@ -1,9 +1,9 @@
-use crate::reading::Answer;
-use crate::reading::Outcome;
-use crate::reading::read_core;
+use crate::core::read_core;
 use channel::Record;
 use frame::SetUp;
-ghost use Rattle.reader.specs.Reading.{Read};
+use reading::Answer;
+use reading::Outcome;
+ghost use Rattle.reading.specs.Reading.{Read};
 
 // The thin entry: the record of the eight channels is lent, and changed in place.
 pub fn read(set: SetUp, rec: &mut Record, frame: &[u8], store: &mut [u8], out: &mut [u8]) -> Answer

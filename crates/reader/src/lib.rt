@@ -1,12 +1,7 @@
-// Reading a frame: the tests, the steps of an accepted frame, the by-value core and the thin entry.
+// Reading a frame: the by-value core, tests 1 to 12 before the steps, and the thin entry over it.
+mod core;
 mod entry;
-mod reading;
 
+pub use core::read_core;
 pub use entry::read;
 pub use entry::read_kept;
-pub use reading::Answer;
-pub use reading::Kind;
-pub use reading::Outcome;
-pub use reading::Refusal;
-pub use reading::Report;
-pub use reading::read_core;

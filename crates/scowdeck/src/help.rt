@@ -1,4 +1,4 @@
-use crate::printing::text;
+use lines::text;
 
 pub fn help() {
     text(

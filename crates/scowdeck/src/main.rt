@@ -1,15 +1,12 @@
 // Reads frames laid end to end in a file, prints a line a frame and a summary a channel, and writes the packets of each channel
 // to a file of its own. Every frame goes through the reader's thin entry, with record and store kept from frame to frame.
-mod files;
 mod help;
-mod lines;
-mod printing;
 mod recording;
 mod starting;
 mod summary;
 mod words;
 
-use printing::complain;
+use lines::complain;
 use words::same;
 
 fn asked_for_help() -> bool {

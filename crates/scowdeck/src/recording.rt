@@ -1,32 +1,21 @@
 // The loop over the frames of a recording.
-use crate::files::Saved;
-use crate::files::save;
-use crate::lines::accepted;
-use crate::lines::refused;
-use crate::printing::blame;
-use crate::printing::complain;
 use channel::Output;
 use channel::Store;
 use desk::Desk;
+use desk::Saved;
+use files::save;
+use files::within;
 use frame::SetUp;
-use reader::Answer;
-use reader::Report;
+use keeping::Work;
+use keeping::step;
+use lines::accepted;
+use lines::blame;
+use lines::complain;
+use lines::refused;
+use reading::Answer;
+use reading::Report;
 ghost use mathlib.Core.Path.{_≡_};
-ghost use Prim.Native.Nat.{_≤_};
-ghost use Rattle.scowdeck.specs.Keeping.{Keeps};
-
-// What is kept from frame to frame, besides the store: the desk, how far each channel's file got, and whether all was read.
-pub struct Work {
-    pub desk: Desk,
-    pub saved: [Saved; 8],
-    pub complete: bool,
-}
-
-pub fn within(n: usize, most: usize) -> usize
-    ensures { λ r. ⌜ r ≤ most ⌝ }
-{
-    if n < most { n } else { most }
-}
+ghost use Rattle.keeping.specs.Keeping.{Keeps};
 
 // Whether the recording ended where the frames did; if not, why is said.
 fn ended(fd: i32, path: &[u8]) -> bool {
@@ -69,17 +58,6 @@ fn accept(work: Work, number: u64, r: Report, packets: &[u8], fds: &[i32; 8]) ->
     next
 }
 
-fn with_desk(work: Work, desk: Desk) -> Work
-    ensures { λ w. ⌜ w .desk ≡ desk ⌝ }
-{
-    let saved = work.saved;
-    Work {
-        desk,
-        saved,
-        complete: work.complete,
-    }
-}
-
 // What the desk answered of a frame of so many octets is said, and its packets are saved.
 fn tell(work: Work, answer: Answer, octets: usize, packets: &[u8], fds: &[i32; 8]) -> Work
     ensures { λ w. ⌜ w .desk ≡ work .desk ⌝ }
@@ -106,13 +84,12 @@ fn one(
 ) -> Work
     ensures { λ w. ⌜ Keeps set (work .desk) (now (store .entry)) (now (output .entry)) (now (frame .entry)) (w .desk) (now (store .exit)) ⌝ }
 {
-    let before = work.desk;
-    let taken = desk::take(before, set, frame, store, output);
-    let answer = taken.answer;
-    let next = taken.next;
+    let stepped = step(work, set, frame, store, output);
+    let next = stepped.work;
+    let answer = stepped.answer;
+    let n = stepped.octets;
     let all: &[u8] = output;
-    let n = within(taken.octets, all.len());
-    tell(with_desk(work, next), answer, frame.len(), &all[0..n], fds)
+    tell(next, answer, frame.len(), &all[0..n], fds)
 }
 
 fn fill(fd: i32, frame: &mut [u8], n: usize) -> usize {

@@ -1,15 +1,15 @@
 // From the words of the command line to an open recording and eight files.
-use crate::files::OUT_MAX;
-use crate::files::make_all;
-use crate::printing::blame;
-use crate::printing::complain;
 use crate::recording::read_all;
 use crate::summary::summary;
 use crate::words::Choice;
 use crate::words::chosen;
 use desk::Number;
 use desk::spelt;
+use files::OUT_MAX;
+use files::make_all;
 use frame::SetUp;
+use lines::blame;
+use lines::complain;
 
 enum Given {
     Whole(SetUp),

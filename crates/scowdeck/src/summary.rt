@@ -1,60 +1,24 @@
 // What is said at the end: a line a channel, its file read back, and the last line.
-use crate::files::Saved;
-use crate::files::name;
-use crate::lines::channel;
-use crate::printing::blame;
-use crate::printing::hex;
-use crate::printing::line;
-use crate::printing::text;
-use crate::printing::value;
-use crate::recording::Work;
-use crate::recording::within;
 use channel::Record;
+use desk::Saved;
 use desk::Totals;
+use files::finished;
+use files::name;
+use keeping::Work;
 use libc::PATH_MAX;
+use lines::channel;
+use lines::line;
+use lines::value;
 ghost use Prim.Native.Nat.{_≤_, _<_};
 
-// Files of fewer octets than this are looked at whole.
-const ROOM: usize = 65536;
-
-// The octets read back, against what was written.
-fn compared(octets: &[u8], s: Saved) -> bool {
-    if ROOM <= octets.len() {
-        text(b" check=none");
-        return !s.failed;
+// The end of a channel's line.
+fn told(saved: bool) -> bool {
+    if saved {
+        line(b" saved=yes");
+    } else {
+        line(b" saved=no");
     }
-    hex(b" check=", crc::syndrome(octets) as u64, 4);
-    if s.failed {
-        return false;
-    }
-    octets.len() as u64 == s.octets
-}
-
-fn read_back(path: &[u8], s: Saved) -> bool {
-    let fd = os::open_read(path);
-    if fd < 0 {
-        blame(b"cannot read back ", path);
-        return false;
-    }
-    let mut room = io::large_buffer();
-    let n = io::read_full(fd, &mut room);
-    libc::close(fd);
-    compared(&room[..n], s)
-}
-
-// Closes the channel's file and reads it back: whether all of the channel's packets are in it.
-fn settled(fd: i32, path: &[u8], s: Saved) -> bool {
-    value(b" octets=", s.octets);
-    if libc::close(fd) < 0 {
-        blame(b"cannot close ", path);
-        return false;
-    }
-    read_back(path, s)
-}
-
-fn finished(fd: i32, out: &[u8], m: usize, s: Saved) -> bool {
-    let k = within(m, out.len());
-    settled(fd, &out[0..k], s)
+    saved
 }
 
 fn one(
@@ -71,12 +35,7 @@ fn one(
     let fd = fds[v];
     channel(v, sums);
     let m = name(out, n, v);
-    if finished(fd, out, m, saved) {
-        line(b" saved=yes");
-        return true;
-    }
-    line(b" saved=no");
-    false
+    told(finished(fd, out, m, saved))
 }
 
 fn last(rec: Record, frames: u64, refused: u64, complete: bool) {

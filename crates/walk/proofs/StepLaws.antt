@@ -1,6 +1,6 @@
 -- Which case of steps 2 to 5 a frame is, test by test.
 -- Assumes nothing.
-use mathlib.Core.Path.{_≡_, refl, sym}
+use mathlib.Core.Path.{_≡_, refl, _∙_, sym}
 use mathlib.Core.Bool.{Bool, true, false, _||_, false≢true}
 use mathlib.Core.List.{List, _++_}
 use mathlib.Core.Logic.{⊎-elim}
@@ -53,6 +53,10 @@ module _ (D k pointer : ℕ) (s : Size) where
         → eqb pointer called ≡ agrees D k s pointer
     unfolding agrees agreesBy
     agrees-total n called end e f g = rw (ne-eqb k 0 h, e, f, g)
+
+-- what the code found of the size that it was told
+pub agreed : (D k pointer : ℕ) {s t : Size} {a b : Bool} → s ≡ t → a ≡ agrees D k s pointer → a ≡ b → agrees D k t pointer ≡ b
+agreed D k pointer e f g = rw (← e) (sym f ∙ g)
 
 -- a pointer that passed test 12 and is neither 2046 nor 2047 lies within the field
 pub points-in : {limit : ℕ} {part field : List ℕ} {pointer : ℕ} {out : List ℕ} → Fit limit part field pointer out

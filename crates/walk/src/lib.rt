@@ -1,10 +1,9 @@
-// What an accepted frame does to its channel: the walk from packet to packet, and steps 1 to 5 around it.
+// What an accepted frame does to its channel: the walk from packet to packet (step 5), with the definitions and laws of the steps around it,
+// whose code is the crates `judging`, `gathering` and `steps`.
 mod stepping;
 mod walking;
 
 pub use stepping::Course;
-pub use stepping::gap_for;
-pub use stepping::steps;
 pub use walking::End;
 pub use walking::Ended;
 pub use walking::Tally;

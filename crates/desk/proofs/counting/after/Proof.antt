@@ -1,7 +1,6 @@
 -- `desk::counting::after` meets its contract.
 -- Assumes nothing.
-use Rattle.desk.specs.Counting.{totalsAfter}
-use Rattle.desk.proofs.CountLaws.{after-accepted}
+use Rattle.desk.proofs.CountLaws.{after-refused, after-accepted}
 use borrow.Author.Needs.{needs}
 use Rattle.desk.proofs.counting.after.Statement.{statement}
 use Rattle.desk.proofs.counting.after.Tie as tie
@@ -19,8 +18,7 @@ with-frame-requires : tie.Need-with-frame-requires
 with-frame-requires c κs = search needs
 
 returns : tie.Need-returns
-unfolding totalsAfter
-returns c = cc
+returns c = after-refused _ _ _ _ (c .before .enum-told .given .1) (c .with-refusal .ensures)
 
 returns-2 : tie.Need-returns-2
 returns-2 c = after-accepted _ _ _ _ (c .before .before .answer .given .1) (c .with-frame .ensures)

@@ -47,17 +47,17 @@ use Rattle.frame.proofs.set_up.SetUp.Laws as U′
 use Rattle.channel.specs.declared.state.Record.{Record}
 use Rattle.channel.proofs.state.Record as R
 use Rattle.channel.proofs.state.Record.Laws as R′
-use Rattle.reader.specs.declared.reading.Answer.{Answer}
-use Rattle.reader.specs.declared.reading.Outcome.{Outcome}
-use Rattle.reader.specs.Reading.{Read}
-use Rattle.reader.proofs.reading.Answer as N
-use Rattle.reader.proofs.reading.Answer.Laws as N′
-use Rattle.reader.proofs.reading.Outcome as O
-use Rattle.reader.proofs.reading.Outcome.Laws as O′
-use Rattle.reader.proofs.reading.read_core as core
-use Rattle.reader.proofs.reading.read_core.Symbol as core-def
-use Rattle.reader.proofs.reading.read_core.Symbol.{name as #read-core}
-use Rattle.reader.proofs.reading.read_core.Met as core-thm
+use Rattle.reading.specs.declared.Answer.{Answer}
+use Rattle.reading.specs.declared.Outcome.{Outcome}
+use Rattle.reading.specs.Reading.{Read}
+use Rattle.reading.proofs.Answer as N
+use Rattle.reading.proofs.Answer.Laws as N′
+use Rattle.reading.proofs.Outcome as O
+use Rattle.reading.proofs.Outcome.Laws as O′
+use Rattle.reader.proofs.core.read_core as core
+use Rattle.reader.proofs.core.read_core.Symbol as core-def
+use Rattle.reader.proofs.core.read_core.Symbol.{name as #read-core}
+use Rattle.reader.proofs.core.read_core.Met as core-thm
 use Rattle.reader.proofs.entry.read.Key.{name as #read}
 use Rattle.reader.proofs.entry.read as read
 use Rattle.reader.proofs.entry.read.Statement as stated
@@ -215,4 +215,4 @@ read-spec 𝓤 H 𝓜 𝓖 𝓡 =
     entered 𝓤 H (tripleOf 𝓤 H (𝓖 .A) read.signature (read.spec 𝓤 H (𝓖 .A) (𝓜 .mem) (𝓡 .run)))
     (tables 𝓤 H 𝓜 𝓡 code.env .C) (tables 𝓤 H 𝓜 𝓡 code.env .Λ) #read code.function (code.unfolded 𝓤 H 𝓜 𝓡)
     (read-meets 𝓤 H (𝓖 .A) (givenOf 𝓤 H 𝓜 𝓖) (𝓜 .mem) (𝓡 .run) (tablesOf 𝓤 H 𝓜 (tables 𝓤 H 𝓜 𝓡 code.env))
-    (cited 𝓤 H (Core 𝓤 H (𝓖 .A) (𝓜 .mem) (𝓡 .run)) 𝓜 𝓡 code.env #read-core core-def.routine code.calls-reader·reading·read-core (core-thm.met 𝓤 H 𝓜 𝓖 𝓡)))
+    (cited 𝓤 H (Core 𝓤 H (𝓖 .A) (𝓜 .mem) (𝓡 .run)) 𝓜 𝓡 code.env #read-core core-def.routine code.calls-reader·core·read-core (core-thm.met 𝓤 H 𝓜 𝓖 𝓡)))

@@ -49,13 +49,13 @@ use Rattle.frame.proofs.set_up.SetUp.Laws as U′
 use Rattle.channel.specs.declared.state.Record.{Record}
 use Rattle.channel.proofs.state.Record as R
 use Rattle.channel.proofs.state.Record.Laws as R′
-use Rattle.reader.specs.declared.reading.Answer.{Answer}
-use Rattle.reader.specs.declared.reading.Outcome.{Outcome}
-use Rattle.reader.specs.Reading.{Read}
-use Rattle.reader.proofs.reading.Answer as N
-use Rattle.reader.proofs.reading.Answer.Laws as N′
-use Rattle.reader.proofs.reading.Outcome as O
-use Rattle.reader.proofs.reading.Outcome.Laws as O′
+use Rattle.reading.specs.declared.Answer.{Answer}
+use Rattle.reading.specs.declared.Outcome.{Outcome}
+use Rattle.reading.specs.Reading.{Read}
+use Rattle.reading.proofs.Answer as N
+use Rattle.reading.proofs.Answer.Laws as N′
+use Rattle.reading.proofs.Outcome as O
+use Rattle.reading.proofs.Outcome.Laws as O′
 use Rattle.reader.proofs.entry.read as read
 use Rattle.reader.proofs.entry.read.Symbol as read-def
 use Rattle.reader.proofs.entry.read.Symbol.{name as #read}

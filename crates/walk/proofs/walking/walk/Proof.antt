@@ -22,7 +22,7 @@ abbrev μ-loop : tie.MeasureT-loop
 -- at a whole packet of n octets
 whole-here : (c : tie.After-known-told2 Inv-loop μ-loop)
     → seenOf source (c .before .before .before .before .before .before .before .before .args .limit) (drop (c .before .before .before .before .before .loop .at) (c .before .before .before .before .before .before .before .before .args .field .now)) ≡ Whole (c .before .seen2 .given .0 .0)
-whole-here c = looked source (c .before .before .before .before .before .before .before .before .args .limit) (c .before .before .before .before .before .before .before .before .args .field .now) (c .before .before .before .before .before .loop .at) _ (c .before .before .before .look .ensures) ∙ (cc)
+whole-here c = looked source (c .before .before .before .before .before .before .before .before .args .limit) (c .before .before .before .before .before .before .before .before .args .field .now) (c .before .before .before .before .before .loop .at) _ (c .before .before .before .look .ensures) ∙ c .before .seen2 .given .1
 
 stands : (c : tie.After-known-told2 Inv-loop μ-loop)
     → Stands source (c .before .before .before .before .before .before .before .before .args .limit) (drop (c .before .before .before .before .before .loop .at) (c .before .before .before .before .before .before .before .before .args .field .now)) (c .before .seen2 .given .0 .0)
@@ -31,7 +31,7 @@ stands c = seen-whole source source-lawful _ _ _ (whole-here c)
 -- at the walk's end
 stop-here : (c : tie.After-known-told Inv-loop μ-loop)
     → seenOf source (c .before .before .before .before .before .before .before .before .args .limit) (drop (c .before .before .before .before .before .loop .at) (c .before .before .before .before .before .before .before .before .args .field .now)) ≡ Stop (c .before .seen .given .0 .0)
-stop-here c = looked source (c .before .before .before .before .before .before .before .before .args .limit) (c .before .before .before .before .before .before .before .before .args .field .now) (c .before .before .before .before .before .loop .at) _ (c .before .before .before .look .ensures) ∙ (cc)
+stop-here c = looked source (c .before .before .before .before .before .before .before .before .args .limit) (c .before .before .before .before .before .before .before .before .args .field .now) (c .before .before .before .before .before .loop .at) _ (c .before .before .before .look .ensures) ∙ c .before .seen .given .1
 
 loop-holds : tie.Need-loop-holds Inv-loop μ-loop
 loop-holds c =

@@ -1,0 +1,5 @@
+pub mod BusyLaws
+pub mod Laws
+pub mod NumberLaws
+pub mod OwnLaws
+pub mod WordLaws

@@ -1,0 +1,3 @@
+pub mod Busy
+pub mod Theorems
+pub mod Words

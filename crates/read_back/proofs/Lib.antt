@@ -1,0 +1,10 @@
+pub mod AllArrive
+pub mod Demand2
+pub mod Fillers
+pub mod Lays
+pub mod Places
+pub mod Reaches
+pub mod Sending
+pub mod Smooth
+pub mod WriterSends
+pub mod Written
