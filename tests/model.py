@@ -1,8 +1,11 @@
 #!/usr/bin/env python3
-"""An independent reader and writer of telemetry frames, and the interpreter of the vectors' script.
+"""An independent reader and writer of telemetry frames, and the interpreter of scripts of cases.
 
     python3 tests/model.py < crates/vectors/stdin    what crates/vectors/stdout must be
     python3 tests/model.py --self-check              the model against published values and binascii
+
+tests/vectors.txt is a script too: tests/vectors_test.py and rust/trial play it over the boundary and here. A line that is
+no case ends the model with an error.
 
 It is written from the scope document's rules alone and shares no code, table or definition with
 the crates. It is plain and slow: a frame is taken apart as one string of bits, the check is a long
@@ -395,7 +398,54 @@ def line(name, *pairs):
     return " ".join([name] + ["%s=%s" % (key, value) for key, value in pairs])
 
 
+# Each command: how many numbers it takes, and whether octets follow them. A flag is 0 for no, anything else for yes.
+#
+#   crc OCTETS                              their syndrome
+#   open N SPACECRAFT EC OCTETS             what a frame opens to; EC: error control is set up
+#   close N SPACECRAFT EC CHANNEL MASTER COUNT HAS_WORD WORD POINTER OCTETS
+#                                           the octets closed as a frame around the data field in them
+#   gap COUNT LAST                          frames missing between the two counts
+#   size OCTETS                             what the first octets of a packet tell
+#   header OCTETS                           the values of a packet header
+#   chain OCTETS                            whether they are a chain of whole packets
+#   distance OFFSET OCTETS                  from an offset into a chain to the next boundary
+#   walk FROM LIMIT OCTETS                  from packet to packet
+#   fresh                                   a fresh record, a store of zeros, and as much of store and output as a reader wants
+#   paint OCTET                             the store filled
+#   lend STORE OUTPUT                       how much of the store and of the output the readings are lent
+#   channel V HEARD LAST STATE SIZE         a channel of the record; STATE: 0 hunting, 1 gathering, 2 skipping
+#   hold V OCTETS                           octets at the start of a channel's part of the store
+#   read N SPACECRAFT EC OCTETS             one frame through the reader, with the record and the store that are kept
+#   busy                                    the busy mask of the record, its ones, the lowest channel
+#   run OCTETS                              the run of packets
+#   runfill TOTAL COUNT                     COUNT packets of TOTAL octets as the run
+#   write N SPACECRAFT EC CHANNEL MASTER COUNT HAS_WORD WORD OFFSET LEFT_OVER OUTPUT
+#                                           one frame from the run, into OUTPUT octets
+#   again HAS_WORD WORD                     the next frame, from what the last writing gave back
+#   back                                    the frame that was written last, read under the set-up that it was written for
+COMMANDS = {"crc": (0, True), "open": (3, True), "close": (9, True), "gap": (2, False),
+            "size": (0, True), "header": (0, True), "chain": (0, True), "distance": (1, True), "walk": (2, True),
+            "fresh": (0, False), "paint": (1, False), "lend": (2, False), "channel": (5, False),
+            "hold": (1, True), "read": (3, True), "busy": (0, False), "run": (0, True),
+            "runfill": (2, False), "write": (11, False), "again": (2, False), "back": (0, False)}
+
+
+def parsed(text):
+    """A line's command and its arguments: numbers, then octets."""
+    name, *words = text.split(" ")
+    if name not in COMMANDS:
+        raise Malformed
+    wanted, has_octets = COMMANDS[name]
+    if len(words) < wanted or len(words) > wanted and not has_octets:
+        raise Malformed
+    arguments = [number(word) for word in words[:wanted]]
+    return name, arguments + [octets(words[wanted:])] if has_octets else arguments
+
+
 class Script:
+    """What is kept from line to line. Of the last line: `answer` is the words of what it answered, a refusal's number or 0
+    first, and `output` the octets that it was lent to write to, afterwards."""
+
     def __init__(self):
         self.fresh()
         self.run = b""
@@ -411,44 +461,31 @@ class Script:
         self.lent_store = 32768
         self.lent_output = 6144
 
-    # Each command: how many numbers it takes, and whether octets follow them.
-    COMMANDS = {"crc": (0, True), "open": (3, True), "close": (9, True), "gap": (2, False),
-                "size": (0, True), "header": (0, True), "chain": (0, True), "distance": (1, True), "walk": (2, True),
-                "fresh": (0, False), "paint": (1, False), "lend": (2, False), "channel": (5, False),
-                "hold": (1, True), "read": (3, True), "busy": (0, False), "run": (0, True),
-                "runfill": (2, False), "write": (11, False), "again": (2, False), "back": (0, False)}
-
     def interpret(self, text):
+        """What a line prints."""
+        self.answer, self.output = [], b""
         if text == "" or text.startswith("#"):
             return text
-        try:
-            words = [word for word in text.split(" ") if word]
-            if not words or words[0] not in self.COMMANDS:
-                raise Malformed
-            wanted, has_octets = self.COMMANDS[words[0]]
-            if len(words) < 1 + wanted or len(words) > 1 + wanted and not has_octets:
-                raise Malformed
-            arguments = [number(word) for word in words[1:1 + wanted]]
-            if has_octets:
-                arguments.append(octets(words[1 + wanted:]))
-            return getattr(self, "do_" + words[0])(*arguments)
-        except Malformed:
-            return "malformed"
+        name, arguments = parsed(text)
+        return getattr(self, "do_" + name)(*arguments)
 
     def do_crc(self, message):
-        return line("crc", ("syndrome", "%04X" % check(message)))
+        self.answer = [check(message)]
+        return line("crc", ("syndrome", "%04x" % self.answer[0]))
 
     def do_open(self, n, spacecraft, error_control, frame):
         code, h = open_alone(n, spacecraft, error_control, frame)
         names = HEADER_NAMES + ["word", "place", "size"]
-        return line("open", ("number", code), *((name, h[name] if h else 0) for name in names))
+        self.answer = [code] + [h[name] if h else 0 for name in names]
+        return line("open", *zip(["number"] + names, self.answer))
 
     def do_close(self, n, spacecraft, error_control, channel, master, count, has_word, word, pointer, output):
         if master > 255 or count > 255:
             raise Malformed
-        code, after = close_frame(n, spacecraft, error_control, channel, master, count,
-                                  word if has_word else None, pointer, output)
-        return line("close", ("number", code), ("output", spelt(after)))
+        code, self.output = close_frame(n, spacecraft, error_control, channel, master, count,
+                                        word if has_word else None, pointer, output)
+        self.answer = [code]
+        return line("close", ("number", code), ("output", spelt(self.output)))
 
     def do_gap(self, count, last):
         if count > 255 or last > 255:
@@ -485,7 +522,7 @@ class Script:
         output = handed + bytes([BLANK]) * (OUTPUT_ROOM - len(handed))
         return line("walk", ("end", why), ("number", size), ("delivered", len(wanted)),
                     ("idle", len(packets) - len(wanted)), ("filled", len(handed)),
-                    ("octets", spelt(stripped(output))))
+                    ("octets", handed.hex()), ("check", "%04x" % check(output)))
 
     def do_fresh(self):
         self.fresh()
@@ -541,6 +578,7 @@ class Script:
                       + [counts[name] for name in ("idle", "broken", "disagreement", "foreign", "oversize")])
         names = (["kind"] + HEADER_NAMES
                  + ["word", "gap", "delivered", "idle", "broken", "disagreement", "foreign", "oversize"])
+        self.answer, self.output = [code] + values, output
         pairs = [("number", code)] + list(zip(names, values)) + [("octets", spelt(stripped(output)))]
         held = range(PART * v, PART * v + k) if reading else range(0)
         strays = sum(1 for i in range(STORE_ROOM) if self.store[i] != store_before[i] and i not in held)
@@ -553,8 +591,8 @@ class Script:
     def do_busy(self):
         busy = [v for v in range(8) if self.channels[v]["state"] == "skipping"
                 or self.channels[v]["state"] == "gathering" and self.channels[v]["number"] >= 1]
-        return line("busy", ("mask", sum(2**v for v in busy)), ("ones", len(busy)),
-                    ("lowest", min(busy, default=8)))
+        self.answer = [sum(2**v for v in busy), len(busy), min(busy, default=8)]
+        return line("busy", *zip(["mask", "ones", "lowest"], self.answer))
 
     def do_run(self, run):
         self.run = run
@@ -585,6 +623,7 @@ class Script:
         code, self.place, self.written = write_frame(
             *self.set_up, self.channel_written, master, count, word if has_word else None,
             self.run, offset, left, bytes([BLANK]) * self.lent_frame)
+        self.answer, self.output = [code, *self.place], self.written
         return line(name, ("number", code), *zip(["offset", "left", "master", "count"], self.place),
                     ("output", spelt(self.written)))
 
@@ -626,8 +665,11 @@ def main():
     lines = sys.stdin.buffer.read().decode("ascii").split("\n")
     if lines[-1] == "":
         lines.pop()
-    for text in lines:
-        print(script.interpret(text))
+    for place, text in enumerate(lines, 1):
+        try:
+            print(script.interpret(text))
+        except Malformed:
+            sys.exit("model: line %d is no case: %s" % (place, text))
 
 
 if __name__ == "__main__":

@@ -1,104 +1,85 @@
 // Octets of a line: words of hex digits in pairs, and words *N, which have the octet before them stand N times in all.
-use crate::rooms::ROOM;
-use crate::words::Found;
-use crate::words::find;
 use crate::words::number;
-use crate::words::past_spaces;
+ghost use Prim.Native.Nat.{_≤_};
 
-// What a hex digit stands for, 16 if it is none.
+// How many octets of a line there is room for.
+pub const ROOM: usize = 70000;
+
+// What a hex digit stands for: the codes of 0 and A are 48 and 65.
 fn digit(b: u8) -> u8 {
-    if b'0' <= b && b <= b'9' {
-        return b - b'0';
-    }
-    if b'A' <= b && b <= b'F' {
-        return b - b'A' + 10;
-    }
-    16
+    if b < b'A' { b % 16 } else { b % 16 + 9 }
 }
 
-// Octet i of a word of hex digits.
-fn pair(word: &[u8], i: usize) -> Found {
-    if word.len() / 2 <= i {
-        return Found::Malformed;
-    }
-    let high = digit(word[2 * i]);
-    let low = digit(word[2 * i + 1]);
-    if 15 < high {
-        return Found::Malformed;
-    }
-    if 15 < low {
-        return Found::Malformed;
-    }
-    Found::Value((high * 16 + low) as usize)
+fn pair(high: u8, low: u8) -> u8 {
+    digit(high) % 16 * 16 + digit(low) % 16
 }
 
-fn digits(word: &[u8], into: &mut [u8; ROOM], n: usize) -> Found {
-    if word.len() % 2 != 0 {
-        return Found::Malformed;
+fn put(b: u8, into: &mut [u8; ROOM], n: usize) -> usize
+    requires { ⌜ n ≤ 70000 ⌝ }
+    ensures { λ r. ⌜ r ≤ 70000 ⌝ }
+{
+    if n < ROOM {
+        into[n] = b;
+        return n + 1;
     }
+    n
+}
+
+fn digits(word: &[u8], into: &mut [u8; ROOM], n: usize) -> usize
+    requires { ⌜ n ≤ 70000 ⌝ }
+    ensures { λ r. ⌜ r ≤ 70000 ⌝ }
+{
     let mut at = n;
-    let mut i = 0;
-    while i < word.len() / 2 {
-        match pair(word, i) {
-            Found::Malformed => return Found::Malformed,
-            Found::Value(b) => {
-                if ROOM <= at {
-                    return Found::Malformed;
-                }
-                into[at] = (b % 256) as u8;
-                at += 1;
-                i += 1;
-            }
-        }
+    let mut i = 1;
+    while i < word.len() {
+        at = put(pair(word[i - 1], word[i]), into, at);
+        i += 2;
     }
-    Found::Value(at)
+    at
 }
 
-fn repeated(into: &mut [u8; ROOM], n: usize, times: usize) -> Found {
+fn repeated(into: &mut [u8; ROOM], n: usize, times: usize) -> usize
+    requires { ⌜ n ≤ 70000 ⌝ }
+    ensures { λ r. ⌜ r ≤ 70000 ⌝ }
+{
     if n == 0 {
-        return Found::Malformed;
+        return n;
     }
     if times == 0 {
-        return Found::Malformed;
-    }
-    if ROOM < n {
-        return Found::Malformed;
+        return n;
     }
     if ROOM - n < times - 1 {
-        return Found::Malformed;
+        return n;
     }
     let last = into[n - 1];
     octets::fill(into, n, times - 1, last);
-    Found::Value(n + times - 1)
+    n + times - 1
 }
 
 // One word, after n octets that stand there already.
-fn word(w: &[u8], into: &mut [u8; ROOM], n: usize) -> Found {
-    if w.len() == 0 {
-        return Found::Malformed;
+fn word(w: &[u8], into: &mut [u8; ROOM], n: usize) -> usize
+    requires { ⌜ n ≤ 70000 ⌝ }
+    ensures { λ r. ⌜ r ≤ 70000 ⌝ }
+{
+    if w.len() < 2 {
+        return n;
     }
-    if w[0] != b'*' {
-        return digits(w, into, n);
+    if w[1] == b'*' {
+        return repeated(into, n, number(&w[2..]));
     }
-    match number(&w[1..]) {
-        Found::Malformed => Found::Malformed,
-        Found::Value(times) => repeated(into, n, times),
-    }
+    digits(&w[1..], into, n)
 }
 
 // All words of the rest of a line: how many octets they are.
-pub fn words(rest: &[u8], into: &mut [u8; ROOM]) -> Found {
+pub fn words(rest: &[u8], into: &mut [u8; ROOM]) -> usize
+    ensures { λ r. ⌜ r ≤ 70000 ⌝ }
+{
     let mut n = 0;
-    let mut at = past_spaces(rest, 0);
+    let mut at = 0;
     while at < rest.len() {
-        let end = find(rest, at + 1, b' ');
-        match word(&rest[at..end], into, n) {
-            Found::Malformed => return Found::Malformed,
-            Found::Value(more) => {
-                n = more;
-                at = past_spaces(rest, end);
-            }
-        }
+        let next = bytes::scan::find(rest, at + 1, rest.len(), b' ');
+        n = word(&rest[at..next], into, n);
+        at = next;
     }
-    Found::Value(n)
+    n
 }

@@ -1,31 +1,22 @@
--- `vectors::run_script` is safe and ends: the octets left.
+-- `vectors::run_script` is safe and ends.
 -- Assumes nothing.
-use Prim.Native.Nat.{_≤_, _-_}
+use Prim.Native.Nat.{_-_}
 use lib.ListN.{length}
 use borrow.Author.Needs.{needs}
 use Rattle.vectors.proofs.run_script.Statement.{statement}
 use Rattle.vectors.proofs.run_script.Tie as tie
 
 abbrev Inv-loop : tie.InvT-loop
-Inv-loop s given₀ run₀ store₀ output₀ frame₀ bench₀ at₀ given run store output frame bench at = at ≤ length s
+Inv-loop s given₀ at₀ given at = Unit {0}
 
 abbrev μ-loop : tie.MeasureT-loop
-μ-loop s given₀ run₀ store₀ output₀ frame₀ bench₀ at₀ given run store output frame bench at = length s - at
-
-first-requires : tie.Need-first-requires Inv-loop μ-loop
-first-requires c κs = search needs
-
-first-requires-2 : tie.Need-first-requires-2 Inv-loop μ-loop
-first-requires-2 c κs = search needs
+μ-loop s given₀ at₀ given at = length s - at
 
 loop-holds : tie.Need-loop-holds Inv-loop μ-loop
 loop-holds c = search needs
 
 find-requires : tie.Need-find-requires Inv-loop μ-loop
 find-requires c κs = search needs
-
-past-requires : tie.Need-past-requires Inv-loop μ-loop
-past-requires c κs = search needs
 
 sub-interpret : tie.Need-sub-interpret Inv-loop μ-loop
 sub-interpret c = search needs
@@ -38,6 +29,12 @@ part-interpret-end c = search needs
 
 interpret-requires : tie.Need-interpret-requires Inv-loop μ-loop
 interpret-requires c κs = search needs
+
+end-line-requires : tie.Need-end-line-requires Inv-loop μ-loop
+end-line-requires c κs = search needs
+
+add-at : tie.Need-add-at Inv-loop μ-loop
+add-at c = search needs
 
 loop-less : tie.Need-loop-less Inv-loop μ-loop
 loop-less c = search needs
@@ -54,15 +51,14 @@ run-script-spec =
     (tie.spec
     Inv-loop
     μ-loop
-    first-requires
-    first-requires-2
     loop-holds
     find-requires
-    past-requires
     sub-interpret
     part-interpret-start
     part-interpret-end
     interpret-requires
+    end-line-requires
+    add-at
     loop-less
     loop-again
     returns)

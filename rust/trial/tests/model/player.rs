@@ -1,5 +1,5 @@
-//! Plays the script of `crates/vectors` over the boundary. Lines about parts that the boundary does not show
-//! print nothing.
+//! Plays a script of `tests/model.py` over the boundary. Lines about parts that the boundary does not show print
+//! nothing.
 
 use trial::boundary::{Boundary, CloseNumbers, ReadLent, WriteNumbers};
 use trial::calls::{hex, PART};
@@ -118,7 +118,7 @@ impl<'a> Script<'a> {
         match name {
             "crc" => {
                 let octets = words.octets();
-                Some(format!("crc syndrome={:04X}", self.with.syndrome(&octets)))
+                Some(format!("crc syndrome={:04x}", self.with.syndrome(&octets)))
             }
             "read" => {
                 let set_up = words.numbers();

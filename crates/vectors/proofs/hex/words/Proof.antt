@@ -1,4 +1,4 @@
--- `vectors::hex::words` is safe and ends.
+-- `vectors::hex::words` meets its contract: the octets stay within the room of a line.
 -- Assumes nothing.
 use Prim.Native.Nat.{_≤_, _-_}
 use lib.ListN.{length}
@@ -7,13 +7,10 @@ use Rattle.vectors.proofs.hex.words.Statement.{statement}
 use Rattle.vectors.proofs.hex.words.Tie as tie
 
 abbrev Inv-loop : tie.InvT-loop
-Inv-loop rest into₀ n₀ at₀ into n at = at ≤ length rest
+Inv-loop rest into₀ n₀ at₀ into n at = (n ≤ 70000) × (at ≤ length rest)
 
 abbrev μ-loop : tie.MeasureT-loop
 μ-loop rest into₀ n₀ at₀ into n at = length rest - at
-
-past-spaces-requires : tie.Need-past-spaces-requires Inv-loop μ-loop
-past-spaces-requires c κs = search needs
 
 loop-holds : tie.Need-loop-holds Inv-loop μ-loop
 loop-holds c = search needs
@@ -36,26 +33,14 @@ part-word-end c = search needs
 word-requires : tie.Need-word-requires Inv-loop μ-loop
 word-requires c κs = search needs
 
-enum-told : tie.Need-enum-told Inv-loop μ-loop
-enum-told c = search needs
-
-returns : tie.Need-returns Inv-loop μ-loop
-returns c = search needs
-
-enum-known-more : tie.Need-enum-known-more Inv-loop μ-loop
-enum-known-more c = search needs
-
-past-spaces-requires-2 : tie.Need-past-spaces-requires-2 Inv-loop μ-loop
-past-spaces-requires-2 c κs = search needs
-
 loop-less : tie.Need-loop-less Inv-loop μ-loop
 loop-less c = search needs
 
 loop-again : tie.Need-loop-again Inv-loop μ-loop
 loop-again c = search needs
 
-returns-2 : tie.Need-returns-2 Inv-loop μ-loop
-returns-2 c = search needs
+returns : tie.Need-returns Inv-loop μ-loop
+returns c = search needs
 
 pub words-spec : {M : Type 1} → statement M
 words-spec =
@@ -63,7 +48,6 @@ words-spec =
     (tie.spec
     Inv-loop
     μ-loop
-    past-spaces-requires
     loop-holds
     add-find
     find-requires
@@ -71,10 +55,6 @@ words-spec =
     part-word-start
     part-word-end
     word-requires
-    enum-told
-    returns
-    enum-known-more
-    past-spaces-requires-2
     loop-less
     loop-again
-    returns-2)
+    returns)
