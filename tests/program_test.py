@@ -3,9 +3,8 @@
 
     python3 tests/program_test.py
 
-The recording of the repository is what tests/make_sample.py makes, and crates/scowdeck/stdout is what
-tests/sample_report.py makes of it. Then: the sample under several set-ups, a long recording, random
-frames, and everything that can go wrong with files and words.
+The sample under several set-ups, a long recording, random frames, and everything that can go wrong with
+files and words. That the sample and crates/scowdeck/stdout are what they should be is .ci/run's to say.
 """
 import io
 import os
@@ -78,9 +77,6 @@ def random_frames(seed, count, n):
 
 def right_runs(folder):
     sample = make_sample.sample()
-    expect(octets_of(DATA) == sample, "the recording is not what make_sample.py makes")
-    expect(octets_of(os.path.join(HERE, "crates", "scowdeck", "stdout")).decode("ascii") == modelled(DATA, "64", "171", "yes"),
-           "crates/scowdeck/stdout is not what sample_report.py makes")
     status, printed, said = run()
     expect(status == 0 and printed == modelled(DATA, "64", "171", "yes", os.path.join(HERE, "out", "sample", "channel")),
            "the sample run: status %d, said %r" % (status, said))
