@@ -1,6 +1,7 @@
 pub mod Xor
 pub mod Digits
 pub mod Linear
+pub mod Entries
 pub mod Polynomial
 pub mod Division
 pub mod Laws

@@ -3,10 +3,11 @@
 use mathlib.Core.Path.{_≡_, refl, sym, ap, ap₂, _∙_}
 use mathlib.Core.List.{List, [], _∷_, _++_, append-nil}
 use Prim.Native.Nat.{ℕ, zero, suc, _+_, _*_, _/_, _%_, _^_, _<_}
-use native.Mathlib.Nat.{zero-mul, mod-eq-of-lt, div-eq-of-lt, add-mul, mul-assoc, pow-suc}
+use native.Mathlib.Nat.{zero-mul, mul-one, mod-eq-of-lt, div-eq-of-lt, add-mul, mul-assoc, pow-suc, pow-succ', lt-of-lt-of-le}
+use native.Mathlib.Numerals.{add-one}
 use native.Mathlib.Omega.{arith}
 use lib.ListN.{length}
-use lib.Pow.{pow-add, split, high, shl-lt}
+use lib.Pow.{pow-add, pow-mono, split, high, shl-lt}
 use lib.Bits.{bitXor, xor-block, xor-shr, xor-self, xor-zero-r, xor-shifted, xor-lt}
 use Rattle.crc.specs.Register.{generator, timesX, step, over, bits, bitsOf, preset, syndromeOf}
 use Rattle.crc.specs.Book.{number}
@@ -68,6 +69,20 @@ pub turns-zero : (k r : ℕ) → r < 2 ^ 16 → turns k r ≡ 0 → r ≡ 0
 unfolding turns
 turns-zero zero r h e = e
 turns-zero (suc k) r h e = timesX-zero r h (turns-zero k (timesX r) (timesX-lt r h) e)
+
+pub turns-xor : (k a b : ℕ) → a < 2 ^ 16 → b < 2 ^ 16 → turns k (bitXor a b) ≡ bitXor (turns k a) (turns k b)
+unfolding turns
+turns-xor zero a b ha hb = refl
+turns-xor (suc k) a b ha hb = ap (turns k) (timesX-xor a b ha hb) ∙ turns-xor k (timesX a) (timesX b) (timesX-lt a ha) (timesX-lt b hb)
+
+-- k turns of a number that has k places above it in the register
+pub turns-low : (k j r : ℕ) → k + j ≡ 16 → r < 2 ^ j → turns k r ≡ r * 2 ^ k
+unfolding turns
+turns-low zero j r e h = sym (mul-one r)
+turns-low (suc k) j r e h =
+    ap (turns k) (timesX-low r (lt-of-lt-of-le h (pow-mono {i = j} {j = 15} (omega arith))))
+    ∙ turns-low k (suc j) (r * 2) (omega arith) (rw add-one at (shl-lt {a = r} j 1 h))
+    ∙ mul-assoc r 2 (2 ^ k) ∙ ap (λ (x : ℕ). r * x) (sym (pow-succ' 2 k))
 
 -- a bit comes in at the top
 top-lt : (r b : ℕ) → b < 2 → r < 2 ^ 16 → bitXor r (b * 2 ^ 15) < 2 ^ 16

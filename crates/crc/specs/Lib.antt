@@ -1,3 +1,4 @@
 pub mod Register
 pub mod Book
+pub mod Entries
 pub mod Theorems
