@@ -1,4 +1,4 @@
-//! Times the proved library beside the plain one, and its check also beside the bit loop that its table replaced:
+//! Times the proved library beside the plain one, and its check also beside the bit loop that its table spares:
 //! 10,000 frames of 1,115 octets, in one run. It asserts that they do the same, and nothing about time.
 //!
 //!     bench [--frames N] [--rounds N]
@@ -159,7 +159,7 @@ fn read_all(with: &dyn Boundary, set_up: [u32; 3], frames: &[u8]) -> (Vec<Durati
 
 type Check = fn(&[u8]) -> u32;
 
-/// The library's check as it was before its table: a turn of the register for each bit.
+/// The check without a table: a turn of the register for each bit.
 fn bit_loop(octets: &[u8]) -> u32 {
     let mut register: u16 = 0xFFFF;
     for &octet in octets {
@@ -270,7 +270,7 @@ fn main() -> ExitCode {
     for case in &CASES {
         same &= measure(case, &size);
     }
-    println!("other: plain, but for the bit loop that the library's table replaced");
+    println!("other: plain, but for the bit loop that the library's table spares");
     println!("ratio: time of the library over time of the other; a writing walks its whole run of up to 65,536 octets");
     if !same {
         println!("they did not do the same");
