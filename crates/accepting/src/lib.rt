@@ -1,4 +1,6 @@
 // A frame that passed all tests: steps 1 to 5, the answer and the record after it.
+#![tactic(auto)]
+
 ghost use Rattle.std.specs.Prelude.{◌≡◌};
 ghost use Rattle.packet.specs.Size.{most, source};
 ghost use Rattle.reading.specs.Inside.{ReadBy, Ready};

@@ -1,4 +1,6 @@
 // A run of octets as a chain of packets.
+#![tactic(auto)]
+
 ghost use Rattle.std.specs.Prelude.{◌≡◌, true, ◌≤◌, length};
 ghost use Rattle.packet.specs.Chain.{front_of, chain_of, distance_of};
 

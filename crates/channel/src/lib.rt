@@ -1,4 +1,6 @@
 // The record of the eight channels: their states, the rules of a record, the store's parts, the busy mask.
+#![tactic(auto)]
+
 mod busy;
 mod state;
 mod store;

@@ -5,14 +5,14 @@ use frame::ChannelCount;
 
 // What a channel is about: looking for a packet's start, in the midst of one of which k octets are held, or passing over r octets
 // of one that is too long.
-#[derive(Drop)]
+#[derive(Clone, Copy)]
 pub enum State {
     Hunting,
     Gathering(usize),
     Skipping(usize),
 }
 
-#[derive(Drop)]
+#[derive(Clone, Copy)]
 pub struct Channel {
     pub heard: bool,
     pub last: ChannelCount,
@@ -20,7 +20,7 @@ pub struct Channel {
 }
 
 // All eight channels, in order. It means nothing without its store.
-#[derive(Drop)]
+#[derive(Clone, Copy)]
 pub struct Record {
     pub channels: [Channel; 8],
 }

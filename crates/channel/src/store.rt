@@ -7,7 +7,7 @@ use frame::{Header, SetUp};
 use packet::Packet;
 
 // The holding store: a part for each channel in order.
-#[derive(Drop)]
+#[derive(Clone, Copy)]
 pub struct Store;
 
 impl Store {
@@ -31,7 +31,7 @@ impl Store {
 }
 
 // The output: room for the packet under way and for all that a frame can hold.
-#[derive(Drop)]
+#[derive(Clone, Copy)]
 pub struct Output;
 
 impl Output {

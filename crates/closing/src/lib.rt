@@ -1,4 +1,6 @@
 // Closing a frame: header, control word and check around a data field that lies in its place already.
+#![tactic(auto)]
+
 ghost use Rattle.std.specs.Prelude.{◌≡◌, true, ◌+◌, ◌-◌, ◌≤◌, ◌<◌, length};
 ghost use Rattle.octets.specs.Laid.{laid};
 ghost use Rattle.octets.specs.Pick.{pick};

@@ -1,4 +1,6 @@
 // Error control: the 16-bit syndrome of a run of octets, an octet at a time through a table.
+#![tactic(auto)]
+
 mod table;
 
 ghost use Rattle.std.specs.Prelude.{◌≡◌};

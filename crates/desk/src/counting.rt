@@ -4,7 +4,7 @@ ghost use Rattle.desk.specs.Counting.{most, counted_of, gap_count, no_totals, to
 
 use reading::{Answer, Report};
 
-#[derive(Drop)]
+#[derive(Clone, Copy)]
 pub struct Sums {
     pub frames: u64,
     // Frames that a gap stood before, and the frames that were missing in all of them.
@@ -19,7 +19,7 @@ pub struct Sums {
 }
 
 // The eight channels, in order.
-#[derive(Drop)]
+#[derive(Clone, Copy)]
 pub struct Totals {
     pub channels: [Sums; 8],
     // Frames handed over, and those of them that were refused.

@@ -1,5 +1,7 @@
 // What the program makes of the answer to a frame, input and output aside: a word read as a number, the counts, and how many octets
 // of the output are the frame's packets.
+#![tactic(auto)]
+
 mod counting;
 mod saving;
 mod taking;

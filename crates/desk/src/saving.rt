@@ -6,7 +6,7 @@ use chain::front;
 use reading::Answer;
 
 // How far a channel's file got: octets written, and whether a write failed.
-#[derive(Drop)]
+#[derive(Clone, Copy)]
 pub struct Saved {
     pub octets: u64,
     pub failed: bool,

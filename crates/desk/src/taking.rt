@@ -8,7 +8,7 @@ use channel::Record;
 use reading::Answer;
 
 // What is kept from frame to frame, besides the store.
-#[derive(Drop)]
+#[derive(Clone, Copy)]
 pub struct Desk {
     pub rec: Record,
     pub totals: Totals,
@@ -26,7 +26,7 @@ impl Desk {
 }
 
 // The reader's answer, the desk from now on, and how many octets of the output are packets to be saved.
-#[derive(Drop)]
+#[derive(Clone, Copy)]
 pub struct Taken {
     pub answer: Answer,
     pub next: Desk,

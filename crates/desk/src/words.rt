@@ -5,7 +5,7 @@ ghost use Rattle.desk.specs.Numbers.{digit_of, decimal_of};
 // Numbers are at most this.
 const MOST: usize = 4294967295;
 
-#[derive(Drop)]
+#[derive(Clone, Copy)]
 pub enum Number {
     Value(usize),
     Bad,

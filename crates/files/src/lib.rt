@@ -1,4 +1,6 @@
 // The files of the eight channels: OUT.0 to OUT.7. None is ever overwritten.
+#![tactic(auto)]
+
 mod settling;
 
 ghost use Rattle.std.specs.Prelude.{◌≤◌, ◌<◌};

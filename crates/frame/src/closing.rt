@@ -2,7 +2,7 @@ ghost use Rattle.std.specs.Prelude.{◌≡◌};
 ghost use Rattle.frame.specs.Answers.{close_number_of};
 
 // A control word for the frame, or none.
-#[derive(Drop)]
+#[derive(Clone, Copy)]
 pub enum ControlWord {
     Absent,
     Present(u32),
@@ -13,7 +13,7 @@ impl ControlWord {
 }
 
 // Why a frame is not closed.
-#[derive(Drop)]
+#[derive(Clone, Copy)]
 pub enum CloseRefusal {
     SetUpRange,
     ChannelAbove,
@@ -33,7 +33,7 @@ impl CloseRefusal {
     }
 }
 
-#[derive(Drop)]
+#[derive(Clone, Copy)]
 pub enum Closed {
     Refused(CloseRefusal),
     Written,

@@ -2,10 +2,10 @@ ghost use Rattle.std.specs.Prelude.{◌≡◌};
 ghost use Rattle.frame.specs.Counts.{gap_of, after};
 
 // The count of all frames of a spacecraft, and the count of those of one virtual channel: two types, so that neither stands in for the other.
-#[derive(Drop)]
+#[derive(Clone, Copy)]
 pub struct MasterCount(pub u8);
 
-#[derive(Drop)]
+#[derive(Clone, Copy)]
 pub struct ChannelCount(pub u8);
 
 impl MasterCount {

@@ -1,7 +1,7 @@
 use crate::counts::{ChannelCount, MasterCount};
 
 // The values of a frame header. The version is not among them: only version 00 is opened.
-#[derive(Drop)]
+#[derive(Clone, Copy)]
 pub struct Header {
     pub spacecraft: u32,
     pub channel: usize,

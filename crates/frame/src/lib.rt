@@ -1,5 +1,7 @@
 // The frame part: the set-up, the two counts, the header, and what opening a version 1 telemetry frame (tests 1 and 5 to 12) and closing one
 // answer, with their definitions and laws. The code of opening is the crate `opening`, that of closing the crate `closing`.
+#![tactic(auto)]
+
 mod closing;
 mod counts;
 mod header;

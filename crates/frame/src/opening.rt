@@ -8,7 +8,7 @@ use crate::header::Header;
 use crate::set_up::SetUp;
 
 // Why a frame is not opened.
-#[derive(Drop)]
+#[derive(Clone, Copy)]
 pub enum Refusal {
     SetUpRange,
     FrameLength,
@@ -41,7 +41,7 @@ impl Refusal {
 }
 
 // An opened frame: its header values, its control word (0 if not flagged), where its data field starts and how long it is.
-#[derive(Drop)]
+#[derive(Clone, Copy)]
 pub struct Frame {
     pub header: Header,
     pub word: u32,
@@ -49,7 +49,7 @@ pub struct Frame {
     pub size: usize,
 }
 
-#[derive(Drop)]
+#[derive(Clone, Copy)]
 pub enum Opened {
     Refused(Refusal),
     Accepted(Frame),

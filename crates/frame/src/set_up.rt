@@ -2,7 +2,7 @@ ghost use Rattle.std.specs.Prelude.{◌≡◌};
 ghost use Rattle.frame.specs.SetUp.{fits_of};
 
 // What a station says of its frames: their length N, the spacecraft number, whether error control is present.
-#[derive(Drop)]
+#[derive(Clone, Copy)]
 pub struct SetUp {
     pub length: usize,
     pub spacecraft: u32,

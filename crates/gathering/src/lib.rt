@@ -1,4 +1,6 @@
 // The walk over a data field, from where a packet starts in it or from a packet under way, and what is held of a packet that it cuts.
+#![tactic(auto)]
+
 ghost use Rattle.std.specs.Prelude.{◌≡◌, true, ◌++◌, ◌+◌, ◌-◌, ◌≤◌, ◌<◌, length, take, drop};
 ghost use Rattle.octets.specs.Laid.{laid};
 ghost use Rattle.packet.specs.Size.{format_most, least, size_of, source};

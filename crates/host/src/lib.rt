@@ -1,6 +1,8 @@
 // The boundary for C, Rust and Python: numbers and slices alone. Every function answers for any input, and returns the paper's number. A group
 // of functions is a crate: `host_telemetry` reads and writes over a saved record, `host_frame` is the part that is sold by itself; `host_words`
 // is a saved record's words. This crate is what every group has of set-ups, control words, flags and answers.
+#![tactic(auto)]
+
 ghost use Rattle.std.specs.Prelude.{◌≡◌};
 ghost use Rattle.frame.specs.Answers.{bit};
 ghost use Rattle.host.specs.Answer.{given_word, laid_words, set_up_of};

@@ -1,4 +1,6 @@
 // What a reading or a writing leaves in the words that are lent for its answer and for the saved record.
+#![tactic(auto)]
+
 ghost use Rattle.std.specs.Prelude.{◌≡◌, [], ◌∷◌, ◌^◌, ◌<◌, replicate};
 ghost use Rattle.reading.specs.Answers.{kind_number, values_of};
 ghost use Rattle.reading.specs.declared.Answer.TheVariants.{Accepted};

@@ -1,4 +1,6 @@
 // The frame part, which is sold by itself: opening a frame, closing one, and the check.
+#![tactic(auto)]
+
 ghost use Rattle.std.specs.Prelude.{◌≡◌, ◌∷◌, replicate};
 ghost use Rattle.crc.specs.Register.{syndrome_of};
 ghost use Rattle.frame.specs.Answers.{close_value_of, values_of};

@@ -1,4 +1,6 @@
 // Telemetry: reading a frame into a saved record, writing one, and what a saved record is busy with.
+#![tactic(auto)]
+
 ghost use Rattle.host_answers.specs.Answer.{given_place};
 ghost use Rattle.host.specs.Answer.{given_word, set_up_of};
 ghost use Rattle.host_telemetry.specs.Calls.{BusyCall, ReadCall, WriteCall};

@@ -1,4 +1,6 @@
 // A saved record's words: four for each channel, and what the busy mask reads of them.
+#![tactic(auto)]
+
 ghost use Rattle.std.specs.Prelude.{◌≡◌, ◌+◌, ◌≤◌, ◌<◌, ◌^◌, length, get_or};
 ghost use Rattle.octets.specs.Laid.{laid};
 ghost use Rattle.host_words.specs.Busy.{seen, seen_at, seen_state, state_at};

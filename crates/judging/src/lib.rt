@@ -1,5 +1,7 @@
 // What a frame means for its channel before any octet of it is looked at: its gap, the pointer that is called for, what counts as broken and
 // what as a disagreement.
+#![tactic(auto)]
+
 ghost use Rattle.std.specs.Prelude.{◌≡◌, true, ◌-◌, ◌<◌};
 ghost use Rattle.walk.specs.Inside.{broken_course, disagreed_course};
 ghost use Rattle.walk.specs.Steps.{agrees, broken_by, called_at, carries_none, gap_for};

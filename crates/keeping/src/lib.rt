@@ -1,4 +1,6 @@
 // What the program keeps from frame to frame of a recording, input and output aside.
+#![tactic(auto)]
+
 ghost use Rattle.std.specs.Prelude.{◌≡◌, ◌≤◌, length};
 ghost use Rattle.reading.specs.Reading.{Read, answer_of};
 ghost use Rattle.desk.specs.Counting.{totals_after};
@@ -11,7 +13,7 @@ use frame::SetUp;
 use reading::Answer;
 
 // What is kept from frame to frame, besides the store: the desk, how far each channel's file got, and whether all was read.
-#[derive(Drop)]
+#[derive(Clone, Copy)]
 pub struct Work {
     pub desk: Desk,
     pub saved: [Saved; 8],
@@ -19,7 +21,7 @@ pub struct Work {
 }
 
 // The work after a frame, the reader's answer, and how many octets of the output are packets to be saved.
-#[derive(Drop)]
+#[derive(Clone, Copy)]
 pub struct Stepped {
     pub work: Work,
     pub answer: Answer,

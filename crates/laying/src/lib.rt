@@ -1,4 +1,6 @@
 // Laying a data field: what was left over, the run from the offset, the filler; and its pointer.
+#![tactic(auto)]
+
 ghost use Rattle.std.specs.Prelude.{◌≡◌, ◌+◌, ◌-◌, ◌≤◌, ◌<◌, min, length};
 ghost use Rattle.octets.specs.Laid.{laid};
 ghost use Rattle.packet.specs.Size.{least};

@@ -1,4 +1,6 @@
 // The lines that the program prints.
+#![tactic(auto)]
+
 mod printing;
 
 use desk::Sums;

@@ -1,4 +1,6 @@
 // Big-endian numbers of two and of four octets, read and written at a place.
+#![tactic(auto)]
+
 ghost use Rattle.std.specs.Prelude.{◌≡◌, ◌+◌, ◌≤◌, ◌<◌, length};
 ghost use Rattle.octets.specs.Numbers.{number_at, octets_of};
 ghost use Rattle.octets.specs.Laid.{laid};

@@ -1,5 +1,7 @@
 // Octets at a place: one octet, a run copied, a part filled; with the definitions and laws of big-endian numbers and of layouts of bits.
 // Each function says what it leaves as one equation of lists, so that nobody above looks into a loop.
+#![tactic(auto)]
+
 ghost use Rattle.std.specs.Prelude.{◌≡◌, ◌++◌, ◌+◌, ◌≤◌, ◌<◌, min, length, get_or, replicate};
 ghost use Rattle.octets.specs.Laid.{laid};
 

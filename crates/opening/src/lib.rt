@@ -1,4 +1,6 @@
 // Opening a frame: tests 1 and 5 to 12, and what the frame gives.
+#![tactic(auto)]
+
 ghost use Rattle.std.specs.Prelude.{◌≡◌, true, ◌+◌, ◌≤◌, ◌<◌, length};
 ghost use Rattle.frame.specs.Header.{header_of};
 ghost use Rattle.frame.specs.Inside.{open_from};

@@ -4,7 +4,7 @@ ghost use Rattle.packet.specs.Header.{packet_header_of, version_of};
 use crate::source::Packet;
 
 // The values of a packet header.
-#[derive(Drop)]
+#[derive(Clone, Copy)]
 pub struct Header {
     pub version: u8,
     pub type_bit: u8,

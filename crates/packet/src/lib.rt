@@ -1,5 +1,7 @@
 // What a packet header tells: how long a source packet is, whose it is, whether it is idle; with the definitions and laws of a run as a chain
 // of packets, whose code is the crate `chain`.
+#![tactic(auto)]
+
 mod header;
 mod source;
 

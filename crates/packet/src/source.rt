@@ -5,7 +5,7 @@ ghost use Rattle.packet.specs.Size.{format_most, most, packet_fits, size_of};
 use crate::header::{application, version};
 
 // What the octets seen so far of a packet tell: too few to know, another version, or the total.
-#[derive(Drop)]
+#[derive(Clone, Copy)]
 pub enum Size {
     Wait,
     Foreign,
@@ -20,7 +20,7 @@ fn idle_by(first: usize) -> bool
 }
 
 // The limits of a source packet, in octets.
-#[derive(Drop)]
+#[derive(Clone, Copy)]
 pub struct Packet;
 
 impl Packet {

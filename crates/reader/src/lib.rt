@@ -1,4 +1,6 @@
 // Reading a frame: the by-value core, tests 1 to 12 before the steps, and the thin entry over it.
+#![tactic(auto)]
+
 mod core;
 mod entry;
 

@@ -1,5 +1,7 @@
 // What a reading answers, with the definitions and laws of reading a frame. The code is the crates `accepting` (a frame that passed all tests)
 // and `reader`.
+#![tactic(auto)]
+
 ghost use Rattle.std.specs.Prelude.{◌≡◌};
 ghost use Rattle.reading.specs.Answers.{number_of};
 
@@ -7,7 +9,7 @@ use channel::Record;
 use frame::Header;
 
 // What a frame carries: packets, idle data only, or private data.
-#[derive(Drop)]
+#[derive(Clone, Copy)]
 pub enum Kind {
     Packets,
     Idle,
@@ -15,7 +17,7 @@ pub enum Kind {
 }
 
 // Why a call is refused: what the frame part says, or one of the reader's own tests.
-#[derive(Drop)]
+#[derive(Clone, Copy)]
 pub enum Refusal {
     OfFrame(frame::Refusal),
     StoreLength,
@@ -38,7 +40,7 @@ impl Refusal {
 }
 
 // The answer of an accepted frame.
-#[derive(Drop)]
+#[derive(Clone, Copy)]
 pub struct Report {
     pub kind: Kind,
     pub header: Header,
@@ -52,14 +54,14 @@ pub struct Report {
     pub oversize: usize,
 }
 
-#[derive(Drop)]
+#[derive(Clone, Copy)]
 pub enum Answer {
     Refused(Refusal),
     Accepted(Report),
 }
 
 // What a call by value gives back: its answer, and the record from now on.
-#[derive(Drop)]
+#[derive(Clone, Copy)]
 pub struct Outcome {
     pub answer: Answer,
     pub after: Record,

@@ -1,4 +1,6 @@
 // The rules of a record (test 4).
+#![tactic(auto)]
+
 ghost use Rattle.std.specs.Prelude.{◌≡◌, length};
 ghost use Rattle.packet.specs.Size.{most, size_of, source};
 ghost use Rattle.channel.specs.Rules.{judged, state_follows, channel_follows, record_follows};

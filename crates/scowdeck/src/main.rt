@@ -1,5 +1,7 @@
 // Reads frames laid end to end in a file, prints a line a frame and a summary a channel, and writes the packets of each channel
 // to a file of its own. Every frame goes through the reader's thin entry, with record and store kept from frame to frame.
+#![tactic(auto)]
+
 mod help;
 mod recording;
 mod starting;

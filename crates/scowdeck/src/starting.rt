@@ -7,7 +7,7 @@ use files::{OUT_MAX, make_all};
 use frame::SetUp;
 use lines::{blame, complain};
 
-#[derive(Drop)]
+#[derive(Clone, Copy)]
 enum Given {
     Whole(SetUp),
     Bad,

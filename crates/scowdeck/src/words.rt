@@ -1,5 +1,5 @@
 // The words that the program is started with.
-#[derive(Drop)]
+#[derive(Clone, Copy)]
 pub enum Choice {
     Yes,
     No,

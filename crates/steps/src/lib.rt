@@ -1,4 +1,6 @@
 // Steps 2 to 5: what an accepted frame does to its channel.
+#![tactic(auto)]
+
 ghost use Rattle.std.specs.Prelude.{◌≡◌, true, false, ◌-◌, ◌<◌};
 ghost use Rattle.packet.specs.Size.{source};
 ghost use Rattle.channel.specs.Rules.{channel_follows, state_follows};

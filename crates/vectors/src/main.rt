@@ -10,6 +10,8 @@
 //
 // A command is told by its first letter. The script is the repository's own: a line that is no case is found by tests/model.py, which
 // ends with an error, and not here.
+#![tactic(auto)]
+
 mod hex;
 mod packets;
 mod printing;

@@ -7,7 +7,7 @@ use packet::{Packet, Size};
 
 // Why a walk ended: at another version, exactly at a packet's end, in the midst of a packet of which k octets are there, or in one
 // that is too long and of which r octets are still to come.
-#[derive(Drop)]
+#[derive(Clone, Copy)]
 pub enum End {
     Foreign,
     Exact,
@@ -16,21 +16,21 @@ pub enum End {
 }
 
 // What stands at the front: the walk's end, or a whole packet of n octets.
-#[derive(Drop)]
+#[derive(Clone, Copy)]
 enum Seen {
     Stop(End),
     Whole(usize),
 }
 
 // What was done with whole packets so far, and how many octets of the output they fill.
-#[derive(Drop)]
+#[derive(Clone, Copy)]
 pub struct Tally {
     pub delivered: usize,
     pub idle: usize,
     pub filled: usize,
 }
 
-#[derive(Drop)]
+#[derive(Clone, Copy)]
 pub struct Ended {
     pub tally: Tally,
     pub end: End,

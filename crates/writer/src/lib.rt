@@ -1,4 +1,6 @@
 // Writing one frame from a run of packets: tests 1 and 20 to 25, then the frame.
+#![tactic(auto)]
+
 ghost use Rattle.std.specs.Prelude.{◌≡◌};
 ghost use Rattle.writing.specs.Inside.{Ready, WroteBy};
 ghost use Rattle.writing.specs.Writing.{Wrote, row24};
@@ -8,7 +10,7 @@ use laying::{lay, pointer};
 use writing::{Answer, Place, Refusal, Written};
 
 // The limit of a run of packets, in octets.
-#[derive(Drop)]
+#[derive(Clone, Copy)]
 pub struct Run;
 
 impl Run {

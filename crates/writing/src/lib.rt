@@ -1,5 +1,7 @@
 // What a writing answers, with the definitions and laws of writing a frame from a run of packets. The code is the crates `laying` (the data
 // field) and `writer`.
+#![tactic(auto)]
+
 ghost use Rattle.std.specs.Prelude.{◌≡◌};
 ghost use Rattle.writing.specs.Answers.{number_of};
 
@@ -7,7 +9,7 @@ use frame::{ChannelCount, MasterCount};
 use packet::Packet;
 
 // What one call hands to the next: where the run goes on, what is left over of an idle packet, and the counts of the next frame.
-#[derive(Drop)]
+#[derive(Clone, Copy)]
 pub struct Place {
     pub offset: usize,
     pub left_over: usize,
@@ -21,14 +23,14 @@ impl Place {
 }
 
 // What a data field was laid with: where the run goes on, what stays left over.
-#[derive(Drop)]
+#[derive(Clone, Copy)]
 pub struct Laid {
     pub offset: usize,
     pub left_over: usize,
 }
 
 // Why no frame is written.
-#[derive(Drop)]
+#[derive(Clone, Copy)]
 pub enum Refusal {
     SetUpRange,
     ChannelAbove,
@@ -56,13 +58,13 @@ impl Refusal {
     }
 }
 
-#[derive(Drop)]
+#[derive(Clone, Copy)]
 pub enum Answer {
     Refused(Refusal),
     Frame,
 }
 
-#[derive(Drop)]
+#[derive(Clone, Copy)]
 pub struct Written {
     pub answer: Answer,
     pub next: Place,
