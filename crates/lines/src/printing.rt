@@ -57,7 +57,7 @@ pub fn fail(err: &impl Print, what: &[u8], why: io::Error) {
 fn say_reason(err: &impl Print, why: io::Error) {
     let mut room = [0u8; 256];
     let left = written(&mut room, why);
-    let n = room.len() - left;
+    let n = room.len().saturating_sub(left);
     match str::from_utf8(&room[..n]) {
         Ok(reason) => say(err, before_number(reason).as_bytes()),
         Err(_) => {}
