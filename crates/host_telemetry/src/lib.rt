@@ -12,8 +12,7 @@ use host_words::{see, unpack};
 use writing::Place;
 
 // Reads a frame into the saved record, its store and the output.
-#[unsafe(no_mangle)]
-pub extern "C" fn scowdeck_read(
+pub fn scowdeck_read(
     length: u32,
     spacecraft: u32,
     error_control: u32,
@@ -32,8 +31,7 @@ pub extern "C" fn scowdeck_read(
 }
 
 // Writes one frame into the output.
-#[unsafe(no_mangle)]
-pub extern "C" fn scowdeck_write(
+pub fn scowdeck_write(
     length: u32,
     spacecraft: u32,
     error_control: u32,
@@ -63,8 +61,7 @@ pub extern "C" fn scowdeck_write(
 }
 
 // The busy mask of a saved record, from its states alone.
-#[unsafe(no_mangle)]
-pub extern "C" fn scowdeck_busy(words: &[u32], answer: &mut [u32]) -> u32
+pub fn scowdeck_busy(words: &[u32], answer: &mut [u32]) -> u32
     ensures { BusyCall words.now answer.old result answer.new }
 {
     let rec = see(words);
