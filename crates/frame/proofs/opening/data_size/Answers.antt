@@ -1,0 +1,13 @@
+-- D.
+use Rattle.octets.proofs.Laws.{pick_le}
+use Rattle.std.proofs.Common.{arith, rules}
+use Rattle.frame.specs.Opening.{data_size}
+use Rattle.frame.proofs.opening.data_size.Goals as goal
+
+pub returns-then-taken-set : goal.returns-then-taken-set
+unfolding data_size
+returns-then-taken-set c = omega arith
+
+pub returns-else-taken-set : goal.returns-else-taken-set
+unfolding data_size
+returns-else-taken-set c = omega arith

@@ -1,0 +1,16 @@
+-- its two numbers of 16 bits and the octets between hold all fields.
+use mathlib.Core.Path.{refl}
+use native.Mathlib.Omega.{arith}
+use Rattle.frame.proofs.HeaderLaws.{header_is}
+use borrow.Author.Rules.{rules}
+use Rattle.opening.proofs.header_of.Goals as goal
+
+pub returns : goal.returns
+returns c = let f = c.args.frame.now in
+    let g = c.shared_slice_known-3-1.given in
+    header_is f _ _ _ _
+    (λ i. omega (arith, g i))
+    c.number16-first.ensures.0
+    c.number16-last.ensures.0
+    refl
+    refl

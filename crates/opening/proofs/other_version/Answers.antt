@@ -1,0 +1,16 @@
+-- row 7.
+use Rattle.frame.specs.Header.{version_of}
+use Rattle.frame.specs.Opening.{row7}
+use mathlib.Core.Path.{◌≡◌}
+use Prim.Native.Nat.{◌/◌}
+use native.Mathlib.Omega.{arith}
+use Rattle.frame.proofs.HeaderLaws.{version_is}
+use borrow.Author.Rules.{rules}
+use Rattle.opening.proofs.other_version.Goals as goal
+
+pub returns : goal.returns
+unfolding row7
+returns c = let f = c.args.frame.now in
+    let g = c.shared_slice_known-1.given in
+    let e : c.number16.result / 16384 ≡ version_of f = omega (arith, version_is f (λ i. omega (arith, g i))) in
+    rw e
