@@ -28,7 +28,9 @@ CHOSEN = {
     "distance-in": "distance_in_lem", "header-octets": "header_octets_lem", "length-field": "length_field_lem",
     "lowest-from": "lowest_from_lem", "mask-from": "mask_from_lem", "short-idle": "short_idle_lem", "tallied-all": "tallied_all_lem",
     "under-way": "under_way_lem", "values-of": "values_of_lem", "whole_in": "whole_in_lem", "word-octets": "word_octets_lem",
-    "word_number": "word_number_lem", "ended_by": "ended_by_lem",
+    "word_number": "word_number_lem", "ended_by": "ended_by_lem", "arrived-whole": "arrived_whole_lem",
+    "channel-follows": "channel_follows_lem", "frame-written": "frame_written_lem", "packets-in": "packets_in_lem",
+    "part-after": "part_after_lem", "skips-out": "skips_out_lem",
     # decisions
     "hunts?": "hunts_or_not", "under-way?": "under_way_or_not", "agrees?": "agrees_or_not",
     # fields beside a definition that they cite
@@ -37,7 +39,8 @@ CHOSEN = {
     # the generator and the multiplier, by their letters in the book
     "G": "G", "S": "S",
     # triples, which are no values
-    "Entry": "Entry", "Core": "Core",
+    "Entry": "Entry", "Core": "Core", "Frame": "Frame", "Post": "Post", "Lent": "Lent", "Toks": "Toks",
+    "Slices": "Slices", "Local": "Local",
 }
 
 
@@ -64,11 +67,33 @@ SKIP = ("use ", "pub use ", "mod ", "pub mod ", "unfolding ", "open ", "--", "gh
 def defined(text):
     """(name, kind) of each definition, field and constructor of a file."""
     lines = text.split("\n")
-    inside = None
+    inside, blocks = None, []
     for i, line in enumerate(lines):
         if not line.strip() or line.strip().startswith("--"):
             continue
-        if not line[0].isspace():
+        indent = len(line) - len(line.lstrip())
+        blocks = [b for b in blocks if b < indent]
+        if line.lstrip().startswith("module "):
+            blocks.append(indent)
+            inside = None
+        elif blocks and indent == blocks[-1] + 2:
+            m = HEAD.match(line.lstrip())
+            if not m or line.lstrip().startswith(SKIP):
+                continue
+            if "record" in m.group(1) or "data" in m.group(1):
+                yield m.group(2), "type"
+            elif m.group(3).startswith(":"):
+                whole = m.group(3)
+                for more in lines[i + 1 :]:
+                    if not more.startswith(" " * (indent + 1)):
+                        break
+                    whole += " " + more.split("--")[0].strip()
+                yield m.group(2), "type" if re.search(r"(?:^|→|:)\s*Type \d+\s*$", whole) else "value"
+        elif blocks and indent == blocks[-1] + 4:
+            m = re.match(r"pub ([^\s:(){}=]+) :(?: |$)", line.lstrip())
+            if m:
+                yield m.group(1), "field"
+        elif not line[0].isspace():
             inside = None
             if line.startswith(SKIP):
                 continue

@@ -98,41 +98,41 @@ unfolding read.output_over read.read_table_over read.output_after row1 fits_of f
 output1 store out p = rw (p.store_is_fit, p.output_is_fit, p.follows)
 
 module _ (store : List ℕ) (h : length store ≡ most * 8) where
-  part-length-after : length (part_after store) ≡ most
+  part_length_after : length (part_after store) ≡ most
   unfolding part_after held
-  part-length-after =
+  part_length_after =
       let l : length (part_of most 3 store) ≡ most = part_inside most 3 store h (omega arith) in
       length_laid (part_of most 3 store) 0 held (omega arith) ∙ l
 
   held_there : take 6 (part_of most 3 (store_after store)) ≡ held
   unfolding store_after part_after held laid
-  held_there = rw (part_own most 3 store (part_after store) h (omega arith) part-length-after)
+  held_there = rw (part_own most 3 store (part_after store) h (omega arith) part_length_after)
 
-  store-after-length : length (store_after store) ≡ most * 8
+  store_after_length : length (store_after store) ≡ most * 8
   unfolding store_after
-  store-after-length = part_length most 3 store (part_after store) h (omega arith) part-length-after
+  store_after_length = part_length most 3 store (part_after store) h (omega arith) part_length_after
 
   -- the record and the store after the first reading pass, and after the second
-  passes-after : (out : List ℕ) → output_fits most (length out) ≡ true → Passes (record_after 4 (Gathering 6)) (store_after store) out
+  passes_after : (out : List ℕ) → output_fits most (length out) ≡ true → Passes (record_after 4 (Gathering 6)) (store_after store) out
   unfolding record_after channel_after held store_fits record_follows all_follow channel_follows state_follows hunts judged size_of layout.value_in layout.bits_from layout.first_among layout.width_among bits_at number_at
-  passes-after out o = record {
-    store_is_fit = rw store-after-length;
+  passes_after out o = record {
+    store_is_fit = rw store_after_length;
     output_is_fit = o;
-    follows = rw (held_there, part_inside most 3 (store_after store) store-after-length (omega arith));
+    follows = rw (held_there, part_inside most 3 (store_after store) store_after_length (omega arith));
   }
 
   told2 : (out : List ℕ) → output_fits most (length out) ≡ true
       → told (record_after 4 (Gathering 6)) (store_after store) out frame2 ≡ values 1 10 5 1 0 0 2 0
   unfolding read.answer_over read.read_table_over read.kind_of read.report_of row1 fits_of frame_table row5 row6 row7 row8 row9 row10 row11 row12 secondary_size data_size word_of frame_of header_of layout.value_in layout.first_among layout.width_among layout.bits_from first_cause bits_at number_at steps_of carries_none gap_for gap_of hunted ended_by course_of walk_of turns turn seen_of front cut_of size_of idle_of tallied_all tallied reading.values_of resumed gathered agrees agrees_by called_at held record_after channel_after
   told2 out o =
-      let p = passes-after out o in
+      let p = passes_after out o in
       rw (p.store_is_fit, p.output_is_fit, p.follows, held_there)
 
   record2 : (out : List ℕ) → output_fits most (length out) ≡ true
       → read.record_of bench (record_after 4 (Gathering 6)) (store_after store) out frame2 ≡ record_after 5 (Gathering 0)
   unfolding read.record_over read.read_table_over read.record_after row1 fits_of frame_table row5 row6 row7 row8 row9 row10 row11 row12 secondary_size data_size word_of frame_of header_of layout.value_in layout.first_among layout.width_among layout.bits_from first_cause bits_at number_at steps_of carries_none gap_for gap_of hunted ended_by course_of walk_of turns turn seen_of front cut_of size_of idle_of tallied_all tallied resumed gathered agrees agrees_by called_at held record_after channel_after
   record2 out o =
-      let p = passes-after out o in
+      let p = passes_after out o in
       rw (p.store_is_fit, p.output_is_fit, p.follows, held_there)
 
   store2 : (out : List ℕ) → output_fits most (length out) ≡ true
@@ -140,23 +140,23 @@ module _ (store : List ℕ) (h : length store ≡ most * 8) where
       ≡ with_part most 3 (store_after store) (laid (part_of most 3 (store_after store)) 0 [])
   unfolding read.store_over read.read_table_over read.store_after row1 fits_of frame_table row5 row6 row7 row8 row9 row10 row11 row12 secondary_size data_size word_of frame_of header_of layout.value_in layout.first_among layout.width_among layout.bits_from first_cause bits_at number_at steps_of carries_none gap_for gap_of hunted ended_by course_of walk_of turns turn seen_of front cut_of size_of idle_of tallied_all tallied resumed gathered agrees agrees_by called_at held record_after channel_after
   store2 out o =
-      let p = passes-after out o in
+      let p = passes_after out o in
       rw (p.store_is_fit, p.output_is_fit, p.follows, held_there)
 
-  store2-length : (out : List ℕ) → output_fits most (length out) ≡ true
+  store2_length : (out : List ℕ) → output_fits most (length out) ≡ true
       → length (read.store_of bench (record_after 4 (Gathering 6)) (store_after store) out frame2) ≡ most * 8
-  store2-length out o =
+  store2_length out o =
       let s : List ℕ = store_after store in
-      let l : length (part_of most 3 s) ≡ most = part_inside most 3 s store-after-length (omega arith) in
+      let l : length (part_of most 3 s) ≡ most = part_inside most 3 s store_after_length (omega arith) in
       ap length (store2 out o)
-      ∙ part_length most 3 s (laid (part_of most 3 s) 0 []) store-after-length (omega arith) (ap length (laid_nil (part_of most 3 s) 0) ∙ l)
+      ∙ part_length most 3 s (laid (part_of most 3 s) 0 []) store_after_length (omega arith) (ap length (laid_nil (part_of most 3 s) 0) ∙ l)
 
   -- the third reading, with B2 and without
   told3 : (out : List ℕ) → output_fits most (length out) ≡ true
       → told (record_after 4 (Gathering 6)) (store_after store) out frame3 ≡ values 2 11 6 2046 1 0 0 1
   unfolding read.answer_over read.read_table_over read.kind_of read.report_of row1 fits_of frame_table row5 row6 row7 row8 row9 row10 row11 row12 secondary_size data_size word_of frame_of header_of layout.value_in layout.first_among layout.width_among layout.bits_from first_cause bits_at number_at steps_of carries_none gap_for gap_of hunted ended_by course_of walk_of turns turn seen_of front cut_of size_of idle_of tallied_all tallied reading.values_of resumed record_after channel_after busy_state
   told3 out o =
-      let p = passes-after out o in
+      let p = passes_after out o in
       rw (p.store_is_fit, p.output_is_fit, p.follows)
 
 told3_behind : (store out : List ℕ) → length store ≡ most * 8 → output_fits most (length out) ≡ true
@@ -224,7 +224,7 @@ bench_holds i k =
     (and (told1 i.store i.out₁ p)
     (and (output1 i.store i.out₁ p)
     (and (rw (r₁, s₁) (told2 i.store h i.out₂ q₂))
-    (and (rw (r₁, s₁, record2 i.store h i.out₂ q₂) (told3_behind _ i.out₃ (store2-length i.store h i.out₂ q₂) q₃))
+    (and (rw (r₁, s₁, record2 i.store h i.out₂ q₂) (told3_behind _ i.out₃ (store2_length i.store h i.out₂ q₂) q₃))
     (and (rw (r₁, s₁) (told3 i.store h i.out₃ q₃))
     (and (told5 i.store i.out₁ h p.output_is_fit)
     (and (pointed i.store i.out₁ p).0

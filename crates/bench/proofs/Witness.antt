@@ -35,7 +35,7 @@ use Rattle.demands.specs.History.{Harmless, Refuses, Allowed, Delivers, last_in,
 use Rattle.demands.specs.Sender.{Mark, Sent, Sends, stream_of, inner, marks_of, marks_of_all, octets_marked, first_start, between}
 use Rattle.demands.specs.Sender.Sends.{no_more, packets, idle}
 use Rattle.bench.specs.Witness.{ours, theirs, earlier, first, second, fourth, fifth, sixth, laid_packets, frame1, frame2, frame3, frame4, frame5, frame6, frame7, frames, elsewhere, history, brought_in, outputs_of, due_table, idle_table, Demand3Met}
-use Rattle.demands.proofs.Calls.{Fine, fine-after, others_keep, read}
+use Rattle.demands.proofs.Calls.{Fine, fine_after, others_keep, read}
 use Rattle.walk.proofs.SourceLaws.{source_roomy}
 use Rattle.demands.proofs.Demand3.{demand3_fresh}
 
@@ -80,26 +80,26 @@ sends_all =
 -- an arriving frame keeps record and store fine
 arrived : (f : List ℕ) (rec : Record) (store out : List ℕ) → below f ≡ true → open_of ours f ≡ Opened.Accepted (frame_of ours f)
     → Fine source most rec store → most + most_length ≤ length out → Fine source most (record_of ours rec store out f) (store_of ours rec store out f)
-arrived f rec store out o e k r = fine-after source_roomy ours rec store out f (frame_of ours f) k r e (octets_by f o)
+arrived f rec store out o e k r = fine_after source_roomy ours rec store out f (frame_of ours f) k r e (octets_by f o)
 
 -- the calls in between: accepted on channel 5; refused by test 3; refused by test 8
 module _ (rec : Record) (store out : List ℕ) (k : Fine source most rec store) where
-  elsewhere-harmless : most + most_length ≤ length out → Harmless source most 3 ours rec store out elsewhere
+  elsewhere_harmless : most + most_length ≤ length out → Harmless source most 3 ours rec store out elsewhere
   unfolding open_of open_table frame_table frame_of first_cause row1 row5 row6 row7 row8 row9 row10 row11 row12 fits_of header_of layout.value_in layout.first_among layout.width_among layout.bits_from secondary_size data_size word_of bits_at number_at report_of
-  elsewhere-harmless r =
+  elsewhere_harmless r =
       let x = frame_of ours elsewhere in
       inr (
         report_of source x (channel_of x rec) (done_by source most x rec store elsewhere),
         (sym (read source_roomy ours rec store out elsewhere x k r refl).answers, λ z. omega arith),
       )
 
-  short-harmless : length out < 6144 → Harmless source most 3 ours rec store out frame6
+  short_harmless : length out < 6144 → Harmless source most 3 ours rec store out frame6
   unfolding answer_over read_table_over first_cause row1 fits_of store_fits output_fits
-  short-harmless h = inl (OutputLength, rw (k.store_whole, lt-leb 6144 (length out) h))
+  short_harmless h = inl (OutputLength, rw (k.store_whole, lt-leb 6144 (length out) h))
 
-  theirs-harmless : most + most_length ≤ length out → Harmless source most 3 theirs rec store out frame6
+  theirs_harmless : most + most_length ≤ length out → Harmless source most 3 theirs rec store out frame6
   unfolding answer_over read_table_over frame_table first_cause row1 row5 row6 row7 row8 fits_of header_of layout.value_in layout.first_among layout.width_among layout.bits_from bits_at number_at store_fits output_fits
-  theirs-harmless r = inl (OfFrame OtherSpacecraft, rw (k.store_whole, le-leb 6144 (length out) r, k.follows))
+  theirs_harmless r = inl (OfFrame OtherSpacecraft, rw (k.store_whole, le-leb 6144 (length out) r, k.follows))
 
 -- refused by test 2
 other_store : (rec : Record) (store out : List ℕ) → (length store ≡ 32768 → ⊥) → Refuses source most ours rec store out frame6
@@ -116,19 +116,19 @@ is_idle out short store' = refl
 
 module _ (store : List ℕ) (out : ℕ → List ℕ) (short store' : List ℕ) (length-is : length store ≡ 32768) (octets : Octets store)
     (room : (i : ℕ) → 6144 ≤ length (out i)) (too_short : length short < 6144) (not_whole : length store' ≡ 32768 → ⊥) where
-  is-allowed : Allowed source most ours 3 fresh_record store false 0 frames (history out short store')
+  is_allowed : Allowed source most ours 3 fresh_record store false 0 frames (history out short store')
   unfolding below open_of open_table frame_table frame_of first_cause row1 row5 row6 row7 row8 row9 row10 row11 row12 fits_of header_of layout.value_in layout.first_among layout.width_among layout.bits_from secondary_size data_size word_of bits_at number_at store_fits
-  is-allowed =
+  is_allowed =
       let k₀ : Fine source most fresh_record store = record { eight = refl; store_whole = length-is; octets = octets; follows = fresh_follows source most store } in
       let k₁ = arrived frame1 fresh_record store (out 1) refl refl k₀ (room 1) in
-      let e = elsewhere-harmless _ _ (out 2) k₁ (room 2) in
+      let e = elsewhere_harmless _ _ (out 2) k₁ (room 2) in
       let k₂ = (others_keep source_roomy 3 ours _ _ (out 2) elsewhere (omega arith) k₁ (octets_by elsewhere refl) e).fine in
       let k₃ = arrived frame2 _ _ (out 3) refl refl k₂ (room 3) in
       let k₄ = arrived frame3 _ _ (out 4) refl refl k₃ (room 4) in
       let k₅ = arrived frame4 _ _ (out 5) refl refl k₄ (room 5) in
-      let s = short-harmless _ _ short k₅ too_short in
+      let s = short_harmless _ _ short k₅ too_short in
       let k₆ = (others_keep source_roomy 3 ours _ _ short frame6 (omega arith) k₅ real6 s).fine in
-      let t = theirs-harmless _ _ (out 6) k₆ (room 6) in (
+      let t = theirs_harmless _ _ (out 6) k₆ (room 6) in (
         room 1,
         λ z. omega arith,
         (
@@ -153,12 +153,12 @@ module _ (store : List ℕ) (out : ℕ → List ℕ) (short store' : List ℕ) (
   delivers : Delivers source most ours earlier laid_packets fresh_record store [] frames (history out short store')
   delivers =
       demand3_fresh ours 3 254 earlier laid_packets frames store (history out short store') all_whole sends_all (omega arith) length-is octets
-      is-allowed
+      is_allowed
 
-  is-handed : outputs_of ours fresh_record store frames (history out short store')
+  is_handed : outputs_of ours fresh_record store frames (history out short store')
       ≡ out 1 ∷ laid (out 3) 0 first ∷ laid (out 4) 0 second ∷ out 5 ∷ laid (out 8) 0 fourth ∷ laid (out 9) 0 (fifth ++ sixth) ∷ []
   unfolding frame_of header_of layout.value_in layout.first_among layout.width_among layout.bits_from secondary_size data_size word_of bits_at number_at last_in all_arrived wanted unwanted idle_of
-  is-handed =
+  is_handed =
       let d₁ = delivers in
       let d₂ = d₁.1 in
       let d₃ = d₂.1 in
@@ -181,8 +181,8 @@ demand3_met store out short store' l o r s n =
     record {
       whole = all_whole;
       sends = sends_all;
-      allowed = is-allowed store out short store' l o r s n;
+      allowed = is_allowed store out short store' l o r s n;
       due = is_due out short store';
       idle = is_idle out short store';
-      hands = is-handed store out short store' l o r s n;
+      hands = is_handed store out short store' l o r s n;
     }

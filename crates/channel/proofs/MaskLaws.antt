@@ -41,19 +41,19 @@ mask_no_more (c ∷ cs) = rw (mask_cons, pow-suc) (omega (arith, mask_no_more cs
 
 -- a loop that takes the channels from the last down to the first: none yet, one more, and room for it in an octet
 module _ (cs : List Channel) (v : ℕ) where
-  pub mask-none : length cs ≤ v → 0 ≡ mask_of (drop v cs)
+  pub mask_none : length cs ≤ v → 0 ≡ mask_of (drop v cs)
   unfolding mask_from
-  mask-none h = rw (drop_of_length-le cs h)
+  mask_none h = rw (drop_of_length-le cs h)
 
-  pub mask-turn : (d : Channel) (b : Bool) (m r : ℕ) → 0 < v → v ≤ length cs
+  pub mask_turn : (d : Channel) (b : Bool) (m r : ℕ) → 0 < v → v ≤ length cs
       → b ≡ busy_channel (get_or cs (v - 1) d) → m ≡ mask_of (drop v cs) → r ≡ pick b 1 0 + m * 2 → r ≡ mask_of (drop (v - 1) cs)
-  mask-turn d b m r h l eb em er =
+  mask_turn d b m r h l eb em er =
       let e : suc (v - 1) ≡ v = omega arith in
       rw (er, eb, em) (sym (ap mask_of (drop-cons cs (v - 1) d (omega arith) ∙ ap (λ (n : ℕ). get_or cs (v - 1) d ∷ drop n cs) e)
       ∙ mask_cons (get_or cs (v - 1) d) (drop v cs)))
 
-  pub mask-room : length cs ≡ 8 → 0 < v → mask_of (drop v cs) < 128
-  mask-room e h =
+  pub mask_room : length cs ≡ 8 → 0 < v → mask_of (drop v cs) < 128
+  mask_room e h =
       let l : length (drop v cs) ≤ 7 = simp length-drop (omega arith) in
       let p : 2 ^ length (drop v cs) ≤ 2 ^ 7 = pow_mono l in
       omega (arith, mask_no_more (drop v cs))
@@ -63,8 +63,8 @@ module _ (c : Channel) (cs : List Channel) where
   mask_low : mask_of (c ∷ cs) % 2 ≡ pick (busy_channel c) 1 0
   mask_low = omega (arith, mask_cons c cs, pick_le (busy_channel c) 1)
 
-  mask-half : mask_of (c ∷ cs) / 2 ≡ mask_of cs
-  mask-half = omega (arith, mask_cons c cs, pick_le (busy_channel c) 1)
+  mask_half : mask_of (c ∷ cs) / 2 ≡ mask_of cs
+  mask_half = omega (arith, mask_cons c cs, pick_le (busy_channel c) 1)
 
 pub mask_bit : MaskBit
 unfolding mask_from
@@ -72,14 +72,14 @@ mask_bit [] v h = absurd (omega arith)
 mask_bit (c ∷ cs) zero h = rw div-one (mask_low c cs)
 mask_bit (c ∷ cs) (suc v) h =
     ap (λ (n : ℕ). mask_of (c ∷ cs) / 2 ^ n % 2) (sym (one-add v))
-    ∙ ap (λ (n : ℕ). n % 2) (sym (shr-shr (mask_of (c ∷ cs)) 1 v) ∙ ap (λ (n : ℕ). n / 2 ^ v) (mask-half c cs))
+    ∙ ap (λ (n : ℕ). n % 2) (sym (shr-shr (mask_of (c ∷ cs)) 1 v) ∙ ap (λ (n : ℕ). n / 2 ^ v) (mask_half c cs))
     ∙ mask_bit cs v (omega arith)
 
 -- as many bits are set as channels are busy
 pub mask_ones : (cs : List Channel) → ones (mask_of cs) ≡ count_of cs
 unfolding mask_from count_of ones
 mask_ones [] = refl
-mask_ones (c ∷ cs) = rw (ones_step (mask_of (c ∷ cs)), mask_low c cs, mask-half c cs, mask_ones cs)
+mask_ones (c ∷ cs) = rw (ones_step (mask_of (c ∷ cs)), mask_low c cs, mask_half c cs, mask_ones cs)
 
 -- the lowest busy channel counted from v on, and with one channel more below
 lowest_from_lem : (v : ℕ) (cs : List Channel) → lowest_from v cs ≡ v + lowest_of cs
@@ -102,7 +102,7 @@ mask_lowest zero [] e = refl
 mask_lowest (suc k) [] e = absurd (omega arith)
 mask_lowest zero (c ∷ cs) e = absurd (omega arith)
 mask_lowest (suc k) (c ∷ cs) e =
-    rw (mask_low c cs, mask-half c cs, mask_lowest k cs (omega arith), lowest_cons c cs) (choose (busy_channel c))
+    rw (mask_low c cs, mask_half c cs, mask_lowest k cs (omega arith), lowest_cons c cs) (choose (busy_channel c))
   where
     choose : (b : Bool) → under (pick b 1 0) (lowest_of cs) ≡ pick b 0 (suc (lowest_of cs))
     choose true = refl

@@ -35,103 +35,103 @@ and p q = rw (p, q)
 
 -- nothing told yet keeps the rules, and another version does not
 module _ (limit k : ℕ) {s : Size} where
-  pub waits-keep : s ≡ Wait → true ≡ judged limit k s
+  pub waits_keep : s ≡ Wait → true ≡ judged limit k s
   unfolding judged
-  waits-keep e = rw e
+  waits_keep e = rw e
 
-  pub foreign-breaks : s ≡ Foreign → false ≡ judged limit k s
+  pub foreign_breaks : s ≡ Foreign → false ≡ judged limit k s
   unfolding judged
-  foreign-breaks e = rw e
+  foreign_breaks e = rw e
 
 -- a total above k is judged by the limit alone, and any other is refused
 module _ (limit k n : ℕ) {s : Size} (e : s ≡ Total n) where
-  pub total-above : k < n → leb n limit ≡ judged limit k s
+  pub total_above : k < n → leb n limit ≡ judged limit k s
   unfolding judged
-  total-above h = rw (e, lt-ltb k n h)
+  total_above h = rw (e, lt-ltb k n h)
 
-  pub total-not-above : n ≤ k → false ≡ judged limit k s
+  pub total_not_above : n ≤ k → false ≡ judged limit k s
   unfolding judged
-  total-not-above h = rw (e, le-ltb k n h)
+  total_not_above h = rw (e, le-ltb k n h)
 
 -- a heard channel keeps the rules by its state, and an unheard one by hunting
 module _ (F : Family) (limit : ℕ) (part : List ℕ) (c : Channel) where
-  pub heard-follows : c.heard ≡ true → state_follows F limit part c.state ≡ channel_follows F limit part c
+  pub heard_follows : c.heard ≡ true → state_follows F limit part c.state ≡ channel_follows F limit part c
   unfolding channel_follows
-  heard-follows h = rw h
+  heard_follows h = rw h
 
   module _ (h : c.heard ≡ false) where
-    pub unheard-hunting : c.state ≡ Hunting → true ≡ channel_follows F limit part c
+    pub unheard_hunting : c.state ≡ Hunting → true ≡ channel_follows F limit part c
     unfolding channel_follows hunts
-    unheard-hunting e = rw (h, e)
+    unheard_hunting e = rw (h, e)
 
-    pub unheard-gathering : (k : ℕ) → c.state ≡ Gathering k → false ≡ channel_follows F limit part c
+    pub unheard_gathering : (k : ℕ) → c.state ≡ Gathering k → false ≡ channel_follows F limit part c
     unfolding channel_follows hunts
-    unheard-gathering k e = rw (h, e)
+    unheard_gathering k e = rw (h, e)
 
-    pub unheard-skipping : (r : ℕ) → c.state ≡ Skipping r → false ≡ channel_follows F limit part c
+    pub unheard_skipping : (r : ℕ) → c.state ≡ Skipping r → false ≡ channel_follows F limit part c
     unfolding channel_follows hunts
-    unheard-skipping r e = rw (h, e)
+    unheard_skipping r e = rw (h, e)
 
 -- what the rules say of k octets gathered, and what makes them kept
 module _ (F : Family) (limit : ℕ) (part : List ℕ) (k : ℕ) where
-  pub gathers-told : state_follows F limit part (Gathering k) ≡ true
+  pub gathers_told : state_follows F limit part (Gathering k) ≡ true
       → (k < limit) × (k ≤ length part) × (judged limit k (F.size (take k part)) ≡ true)
   unfolding state_follows
-  gathers-told e =
+  gathers_told e =
       let t = both (ltb k limit && leb k (length part)) (judged limit k (F.size (take k part))) e in
       let u = both (ltb k limit) (leb k (length part)) t.0 in
       (ltb-true k limit u.0, leb-true k (length part) u.1, t.1)
 
-  pub gathers-from : k < limit → k ≤ length part → judged limit k (F.size (take k part)) ≡ true
+  pub gathers_from : k < limit → k ≤ length part → judged limit k (F.size (take k part)) ≡ true
       → state_follows F limit part (Gathering k) ≡ true
   unfolding state_follows
-  gathers-from h l j = and (and (lt-ltb k limit h) (le-leb k (length part) l)) j
+  gathers_from h l j = and (and (lt-ltb k limit h) (le-leb k (length part) l)) j
 
   -- fewer octets than the limit, all in the part, are judged by the size that they tell
-  pub gathers-below : k < limit → k ≤ length part → judged limit k (F.size (take k part)) ≡ state_follows F limit part (Gathering k)
+  pub gathers_below : k < limit → k ≤ length part → judged limit k (F.size (take k part)) ≡ state_follows F limit part (Gathering k)
   unfolding state_follows
-  gathers-below h l = rw (lt-ltb k limit h, le-leb k (length part) l)
+  gathers_below h l = rw (lt-ltb k limit h, le-leb k (length part) l)
 
-  pub gathers-above : limit ≤ k → false ≡ state_follows F limit part (Gathering k)
+  pub gathers_above : limit ≤ k → false ≡ state_follows F limit part (Gathering k)
   unfolding state_follows
-  gathers-above h = rw (le-ltb k limit h)
+  gathers_above h = rw (le-ltb k limit h)
 
-  pub gathers-short : k < limit → length part < k → false ≡ state_follows F limit part (Gathering k)
+  pub gathers_short : k < limit → length part < k → false ≡ state_follows F limit part (Gathering k)
   unfolding state_follows
-  gathers-short h l = rw (lt-ltb k limit h, lt-leb k (length part) l)
+  gathers_short h l = rw (lt-ltb k limit h, lt-leb k (length part) l)
 
 pub part_has_room : PartHasRoom
 part_has_room F limit k part l = go (dec_lt k limit)
   where
     go : Dec (k < limit) → state_follows F limit part (Gathering k) ≡ (ltb k limit && judged limit k (F.size (take k part)))
-    go (yes h) = sym (gathers-below F limit part k h (omega arith)) ∙ rw (lt-ltb k limit h)
-    go (no h) = sym (gathers-above F limit part k (omega arith)) ∙ rw (le-ltb k limit (omega arith))
+    go (yes h) = sym (gathers_below F limit part k h (omega arith)) ∙ rw (lt-ltb k limit h)
+    go (no h) = sym (gathers_above F limit part k (omega arith)) ∙ rw (le-ltb k limit (omega arith))
 
 module _ (F : Family) (limit : ℕ) (part : List ℕ) {s : State} where
   -- 1 octet or more to skip, up to the format's most
-  pub skips-none : (r : ℕ) → s ≡ Skipping r → r < 1 → false ≡ state_follows F limit part s
+  pub skips_none : (r : ℕ) → s ≡ Skipping r → r < 1 → false ≡ state_follows F limit part s
   unfolding state_follows
-  skips-none r e h = rw (e, lt-leb 1 r h)
+  skips_none r e h = rw (e, lt-leb 1 r h)
 
-  pub skips-some : (r : ℕ) → s ≡ Skipping r → 1 ≤ r → leb r F.most_skip ≡ state_follows F limit part s
+  pub skips_some : (r : ℕ) → s ≡ Skipping r → 1 ≤ r → leb r F.most_skip ≡ state_follows F limit part s
   unfolding state_follows
-  skips-some r e h = rw (e, le-leb 1 r h)
+  skips_some r e h = rw (e, le-leb 1 r h)
 
 -- the channels one by one: none is left, or one more, by what the code cuts out of the store for it
 module _ (F : Family) (limit : ℕ) (store : List ℕ) (cs : List Channel) (v : ℕ) where
-  pub follow-end : length cs ≤ v → all_follow F limit store v (drop v cs) ≡ true
+  pub follow_end : length cs ≤ v → all_follow F limit store v (drop v cs) ≡ true
   unfolding all_follow
-  follow-end h = rw (drop_of_length-le cs h)
+  follow_end h = rw (drop_of_length-le cs h)
 
   module _ (place at end : ℕ) (d : Channel) (b : Bool) (h : v < length cs) (e : place ≡ part_place limit v) (ea : at ≡ min place (length store))
       (ee : end ≡ min (place + limit) (length store)) (f : b ≡ channel_follows F limit (take (end - at) (drop at store)) (get_or cs v d)) where
-    pub follow-next : b ≡ true → all_follow F limit store v (drop v cs) ≡ all_follow F limit store (v + 1) (drop (v + 1) cs)
+    pub follow_next : b ≡ true → all_follow F limit store v (drop v cs) ≡ all_follow F limit store (v + 1) (drop (v + 1) cs)
     unfolding all_follow
-    follow-next t = rw (add-one v, drop-cons cs v d h, ← short_part limit v place at end store e ea ee, ← f, t)
+    follow_next t = rw (add-one v, drop-cons cs v d h, ← short_part limit v place at end store e ea ee, ← f, t)
 
-    pub follow-stop : b ≡ false → all_follow F limit store v (drop v cs) ≡ false
+    pub follow_stop : b ≡ false → all_follow F limit store v (drop v cs) ≡ false
     unfolding all_follow
-    follow-stop t = rw (drop-cons cs v d h, ← short_part limit v place at end store e ea ee, ← f, t)
+    follow_stop t = rw (drop-cons cs v d h, ← short_part limit v place at end store e ea ee, ← f, t)
 
 pub fresh_follows : FreshFollows
 unfolding record_follows all_follow channel_follows hunts

@@ -19,7 +19,7 @@ use Rattle.channel.specs.declared.state.State.{State}
 use Rattle.channel.specs.declared.state.State.TheVariants.{Hunting, Gathering, Skipping}
 use Rattle.channel.specs.Rules.{judged, state_follows, hunts, channel_follows}
 use Rattle.channel.specs.Theorems.{InWords, RulesInWords}
-use Rattle.channel.proofs.RuleLaws.{both, and, gathers-told, gathers-from}
+use Rattle.channel.proofs.RuleLaws.{both, and, gathers_told, gathers_from}
 
 -- what the size of k held octets must be, in words
 Held : ℕ → ℕ → List ℕ → Type 0
@@ -77,9 +77,9 @@ module _ (limit : ℕ) (part : List ℕ) where
   gathers : (k : ℕ) → state_follows source limit part (Gathering k) ≡ true ↔ Gathers limit part k
   unfolding Gathers
   gathers k = (
-    λ t. let u = gathers-told source limit part k t in
+    λ t. let u = gathers_told source limit part k t in
         (u.0, u.1, (held limit k (take k part) (length-take-le k part u.1)).0 u.2),
-    λ w. gathers-from source limit part k w.0 w.1 ((held limit k (take k part) (length-take-le k part w.1)).1 w.2),
+    λ w. gathers_from source limit part k w.0 w.1 ((held limit k (take k part) (length-take-le k part w.1)).1 w.2),
   )
 
   keeps : (s : State) → state_follows source limit part s ≡ true ↔ Keeps limit part s

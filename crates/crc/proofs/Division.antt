@@ -32,22 +32,22 @@ module _ (d : ℕ) (R : List ℕ) (l : length R ≡ 15) where
   unfolding tail scale
   as_many = length-append R (0 ∷ []) ∙ ap (λ (n : ℕ). n + 1) l
 
-  length-next : length (next d R) ≡ 16
+  length_next : length (next d R) ≡ 16
   unfolding next tail scale
-  length-next = length_plus (R ++ (0 ∷ [])) (tail d) (le_of_eq (sym as_many)) ∙ as_many
+  length_next = length_plus (R ++ (0 ∷ [])) (tail d) (le_of_eq (sym as_many)) ∙ as_many
 
   module _ (dR : Digits R) where
-    digits-shifted : Digits (R ++ (0 ∷ []))
-    digits-shifted = digits_append R (0 ∷ []) dR (omega arith)
+    digits_shifted : Digits (R ++ (0 ∷ []))
+    digits_shifted = digits_append R (0 ∷ []) dR (omega arith)
 
-    digits-next : Digits (next d R)
+    digits_next : Digits (next d R)
     unfolding next tail
-    digits-next = digits_plus (R ++ (0 ∷ [])) (tail d) digits-shifted (digits_scale d (drop 1 G))
+    digits_next = digits_plus (R ++ (0 ∷ [])) (tail d) digits_shifted (digits_scale d (drop 1 G))
 
-    number-next : d < 2 → number (next d R) ≡ times_x (d * 2 ^ 15 + number R)
+    number_next : d < 2 → number (next d R) ≡ times_x (d * 2 ^ 15 + number R)
     unfolding next tail number
-    number-next hd =
-        number_plus (R ++ (0 ∷ [])) (tail d) as_many digits-shifted (digits_scale d (drop 1 G))
+    number_next hd =
+        number_plus (R ++ (0 ∷ [])) (tail d) as_many digits_shifted (digits_scale d (drop 1 G))
         ∙ ap₂ bit_xor (number_append R (0 ∷ []) ∙ add-zero (number R * 2)) (number_tail d hd)
         ∙ sym (turn d (number R) hd (rw l at (number_lt R dR)))
 
@@ -59,7 +59,7 @@ add_top b r x hb hr hx =
 number_step : (b r : ℕ) (R : List ℕ) → length R ≡ 15 → b < 2 → Digits (r ∷ R) → number (next ((b + r) % 2) R) ≡ step (number (r ∷ R)) b
 unfolding step number
 number_step b r R l hb dR =
-    number-next ((b + r) % 2) R l dR.1 (mod-lt (b + r) (pow_pos 1))
+    number_next ((b + r) % 2) R l dR.1 (mod-lt (b + r) (pow_pos 1))
     ∙ ap times_x (rw l (sym (add_top b r (number R) hb dR.0 (rw l at (number_lt R dR.1)))))
 
 -- a digit of the quotient
@@ -83,7 +83,7 @@ division (b ∷ c) (r ∷ R) dc dR l =
     let d = (b + r) % 2 in
     let l : length R ≡ 15 = omega arith in
     ap number (left_step b r c R l)
-    ∙ division c (next d R) dc.1 (digits-next d R l dR.1) (length-next d R l)
+    ∙ division c (next d R) dc.1 (digits_next d R l dR.1) (length_next d R l)
     ∙ ap (over c) (number_step b r R l dc.0 dR)
 
 -- the dividend a ∷ p from what is left after the digit a

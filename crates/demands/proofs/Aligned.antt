@@ -16,7 +16,7 @@ use Rattle.channel.specs.declared.state.State.{State}
 use Rattle.channel.specs.declared.state.State.TheVariants.{Gathering, Skipping}
 use Rattle.walk.specs.declared.walking.End.{End}
 use Rattle.walk.specs.Walk.{Done, ended, ended_by, Walked, cut_of, walk_of}
-use Rattle.walk.proofs.WalkLaws.{walk_stop, walk_whole, sees-end, sees-few, sees-oversize, sees-packet, sees-cut}
+use Rattle.walk.proofs.WalkLaws.{walk_stop, walk_whole, sees_end, sees_few, sees_oversize, sees_packet, sees_cut}
 
 -- the beginning of a packet tells nothing yet, or the packet's length
 pub begin_tells : (F : Family) (laws : Lawful F) (a b : List ℕ) → Whole F (a ++ b) → (F.size a ≡ Wait) ⊎ (F.size a ≡ Total (length (a ++ b)))
@@ -42,7 +42,7 @@ walk_one : (F : Family) (laws : Lawful F) (limit : ℕ) (p d : List ℕ) → Who
     ≡ record { whole = p ∷ (walk_of F limit d).whole; end = (walk_of F limit d).end; rest = (walk_of F limit d).rest }
 walk_one F laws limit p d w h =
     let t : F.size (p ++ d) ≡ Total (length p) = laws.total_stays p d (length p) w in
-    let s = sees-packet F limit (p ++ d) (length p) t h (omega (arith, length-append p d)) in
+    let s = sees_packet F limit (p ++ d) (length p) t h (omega (arith, length-append p d)) in
     walk_whole F laws limit (p ++ d) (length p) (sym s)
     ∙ ap₂ (λ (a b : List ℕ). record { whole = a ∷ (walk_of F limit b).whole; end = (walk_of F limit b).end; rest = (walk_of F limit b).rest })
     (take-append_seam p d) (drop-append_seam p d)
@@ -70,47 +70,47 @@ pub data Standing (F : Family) (limit : ℕ) (s : State) (held begun left : List
   skipping : s ≡ Skipping (length left) → limit < length (begun ++ left) → Standing F limit s held begun left
 
 module _ (F : Family) (laws : Lawful F) (limit : ℕ) (ws : List (List ℕ)) (w : AllWhole F ws) (f : AllFit limit ws) where
-  walk-to : (d : List ℕ) (e : End) → walk_of F limit d ≡ record { whole = []; end = e; rest = cut_of e d }
+  walk_to : (d : List ℕ) (e : End) → walk_of F limit d ≡ record { whole = []; end = e; rest = cut_of e d }
       → ended (walk_of F limit (end_to_end ws ++ d)) ≡ ended_by e ws (cut_of e d)
-  walk-to d e s = ap (λ (x : Walked). ended x) (walk_until F laws limit ws d e w f s)
+  walk_to d e s = ap (λ (x : Walked). ended x) (walk_until F laws limit ws d e w f s)
 
   -- an exact end
-  walk-exact : ended (walk_of F limit (end_to_end ws)) ≡ ended_by End.Exact ws []
+  walk_exact : ended (walk_of F limit (end_to_end ws)) ≡ ended_by End.Exact ws []
   unfolding cut_of
-  walk-exact = ap (λ (l : List ℕ). ended (walk_of F limit l)) (sym (append-nil (end_to_end ws))) ∙ walk-to [] End.Exact (walk_stop F laws limit [] End.Exact (sym (sees-end F limit [] laws.empty_waits refl)))
+  walk_exact = ap (λ (l : List ℕ). ended (walk_of F limit l)) (sym (append-nil (end_to_end ws))) ∙ walk_to [] End.Exact (walk_stop F laws limit [] End.Exact (sym (sees_end F limit [] laws.empty_waits refl)))
 
-  pub exact-ran : Ran (ended (walk_of F limit (end_to_end ws))) ws
+  pub exact_ran : Ran (ended (walk_of F limit (end_to_end ws))) ws
   unfolding ended_by
-  exact-ran = rw walk-exact (record { whole = refl; none_foreign = refl; none_disagrees = refl })
+  exact_ran = rw walk_exact (record { whole = refl; none_foreign = refl; none_disagrees = refl })
 
-  pub exact-state : (ended (walk_of F limit (end_to_end ws))).state ≡ Gathering 0
+  pub exact_state : (ended (walk_of F limit (end_to_end ws))).state ≡ Gathering 0
   unfolding ended_by
-  exact-state = rw walk-exact
+  exact_state = rw walk_exact
 
   -- the beginning of a packet
   module _ (begun left : List ℕ) (p : Whole F (begun ++ left)) (a : 1 ≤ length begun) (b : 1 ≤ length left) where
-    cut-done : walk_of F limit begun ≡ record { whole = []; end = End.Cut (length begun); rest = begun }
+    cut_done : walk_of F limit begun ≡ record { whole = []; end = End.Cut (length begun); rest = begun }
         → (length (begun ++ left) ≤ limit) ⊎ (F.size begun ≡ Wait)
         → let d : Done = ended (walk_of F limit (end_to_end ws ++ begun)) in Ran d ws × Standing F limit d.state d.held begun left
     unfolding ended_by cut_of
-    cut-done s o =
-        rw (walk-to begun (End.Cut (length begun)) s)
+    cut_done s o =
+        rw (walk_to begun (End.Cut (length begun)) s)
         (record { whole = refl; none_foreign = refl; none_disagrees = refl }, gathering refl refl o)
 
-    pub midst-done : let d : Done = ended (walk_of F limit (end_to_end ws ++ begun)) in Ran d ws × Standing F limit d.state d.held begun left
+    pub midst_done : let d : Done = ended (walk_of F limit (end_to_end ws ++ begun)) in Ran d ws × Standing F limit d.state d.held begun left
     unfolding ended_by cut_of
-    midst-done = go (begin_tells F laws begun left p) (dec_lt limit (length (begun ++ left)))
+    midst_done = go (begin_tells F laws begun left p) (dec_lt limit (length (begun ++ left)))
       where
         go : (F.size begun ≡ Wait) ⊎ (F.size begun ≡ Total (length (begun ++ left))) → Dec (limit < length (begun ++ left))
             → let d : Done = ended (walk_of F limit (end_to_end ws ++ begun)) in Ran d ws × Standing F limit d.state d.held begun left
-        go (inl e) o = cut-done (walk_stop F laws limit begun (End.Cut (length begun)) (sym (sees-few F limit begun e (λ z. omega arith)))) (inr e)
+        go (inl e) o = cut_done (walk_stop F laws limit begun (End.Cut (length begun)) (sym (sees_few F limit begun e (λ z. omega arith)))) (inr e)
         go (inr e) (no n) =
-            cut-done
+            cut_done
             (walk_stop F laws limit begun (End.Cut (length begun))
-            (sym (sees-cut F limit begun (length (begun ++ left)) e (omega arith) (omega (arith, length-append begun left)))))
+            (sym (sees_cut F limit begun (length (begun ++ left)) e (omega arith) (omega (arith, length-append begun left)))))
             (inl (omega arith))
         go (inr e) (yes m) =
             let l : length (begun ++ left) - length begun ≡ length left = omega (arith, length-append begun left) in
             let o : End = End.Oversize (length (begun ++ left) - length begun) in
-            rw (walk-to begun o (walk_stop F laws limit begun o (sym (sees-oversize F limit begun (length (begun ++ left)) e m))), l)
+            rw (walk_to begun o (walk_stop F laws limit begun o (sym (sees_oversize F limit begun (length (begun ++ left)) e m))), l)
             (record { whole = refl; none_foreign = refl; none_disagrees = refl }, skipping refl m)

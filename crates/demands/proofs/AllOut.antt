@@ -24,11 +24,11 @@ fits_and_came limit came s p = leb (length p) limit && all_arrived (take (length
 
 -- so a packet that ends behind place a and not behind place b is due
 module _ (limit a b : ℕ) (came : List Bool) (s : ℕ) (p : List ℕ) (ps : List (List ℕ)) where
-  ends-in : a < s + length p → s + length p ≤ b
+  ends_in : a < s + length p → s + length p ≤ b
       → last_in limit a b came s (p ∷ ps)
       ≡ pick (fits_and_came limit came s p) (p ∷ last_in limit a b came (s + length p) ps) (last_in limit a b came (s + length p) ps)
   unfolding last_in
-  ends-in h i = rw (lt-ltb a (s + length p) h, le-leb (s + length p) b i)
+  ends_in h i = rw (lt-ltb a (s + length p) h, le-leb (s + length p) b i)
 
 -- none ends
 none_ends : (limit a b : ℕ) (came : List Bool) (s : ℕ) (ps : List (List ℕ)) → b ≤ a → last_in limit a b came s ps ≡ []
@@ -64,10 +64,10 @@ module _ (F : Family) (laws : Lawful F) (limit a b c : ℕ) (h : a ≤ b) (i : b
       go (no j) k l on =
           rw (early limit a b came s p ps (omega arith), early limit b c came s p ps (omega arith), early limit a c came s p ps (omega arith)) on
       go (yes j) (no k) l on =
-          rw (ends-in limit a b came s p ps j (omega arith), early limit b c came s p ps (omega arith), ends-in limit a c came s p ps j (omega arith))
+          rw (ends_in limit a b came s p ps j (omega arith), early limit b c came s p ps (omega arith), ends_in limit a c came s p ps j (omega arith))
           (pick_front (fits_and_came limit came s p) p _ _ _ on)
       go (yes j) (yes k) (no l) on =
-          rw (late limit a b came s p ps k, ends-in limit b c came s p ps k (omega arith), ends-in limit a c came s p ps j (omega arith))
+          rw (late limit a b came s p ps k, ends_in limit b c came s p ps k (omega arith), ends_in limit a c came s p ps j (omega arith))
           (pick_behind (fits_and_came limit came s p) p _ _ _ (late_all F laws limit a b came (s + length p) ps w.1 (omega arith)) on)
       go (yes j) (yes k) (yes l) on =
           rw (late limit a b came s p ps k, late limit b c came s p ps l, late limit a c came s p ps l) on
@@ -112,12 +112,12 @@ last_lost came c s n h i j =
 
 module _ (F : Family) (laws : Lawful F) (limit : ℕ) where
   -- a frame that is lost finishes nothing
-  none-lost : (came : List Bool) (c s : ℕ) (ps : List (List ℕ)) → AllWhole F ps
+  none_lost : (came : List Bool) (c s : ℕ) (ps : List (List ℕ)) → AllWhole F ps
       → last_in limit (length came) (length came + c) (came ++ replicate c false) s ps ≡ []
   unfolding last_in
-  none-lost came c s [] w = refl
-  none-lost came c s (p ∷ ps) w =
-      go (dec_lt (length came) (s + length p)) (dec_lt (length came + c) (s + length p)) (none-lost came c (s + length p) ps w.1)
+  none_lost came c s [] w = refl
+  none_lost came c s (p ∷ ps) w =
+      go (dec_lt (length came) (s + length p)) (dec_lt (length came + c) (s + length p)) (none_lost came c (s + length p) ps w.1)
     where
       go : Dec (length came < s + length p) → Dec (length came + c < s + length p)
           → last_in limit (length came) (length came + c) (came ++ replicate c false) (s + length p) ps ≡ []
@@ -130,13 +130,13 @@ module _ (F : Family) (laws : Lawful F) (limit : ℕ) where
           ∙ on
 
   -- what is due up to the end of all octets sent came whole
-  pub arrived-whole : (came : List Bool) (s : ℕ) (ps : List (List ℕ)) → AllWhole F ps
+  pub arrived_whole_lem : (came : List Bool) (s : ℕ) (ps : List (List ℕ)) → AllWhole F ps
       → last_in limit 0 (length came) came s ps ≡ arrived_whole limit came s ps
   unfolding last_in arrived_whole
-  arrived-whole came s [] w = refl
-  arrived-whole came s (p ∷ ps) w =
+  arrived_whole_lem came s [] w = refl
+  arrived_whole_lem came s (p ∷ ps) w =
       let h = whole_some F laws p w.0 in
-      rw (lt-ltb 0 (s + length p) (omega arith), arrived-whole came (s + length p) ps w.1)
+      rw (lt-ltb 0 (s + length p) (omega arith), arrived_whole_lem came (s + length p) ps w.1)
       (ap (λ (t : Bool). pick t (p ∷ arrived_whole limit came (s + length p) ps) (arrived_whole limit came (s + length p) ps))
       (in_turn (leb (s + length p) (length came)) (leb (length p) limit) _))
     where
@@ -170,10 +170,10 @@ none_yet limit a came s ps = none_ends limit a a came s ps (omega arith)
 module _ (F : Family) (laws : Lawful F) (limit : ℕ) (u : SetUp) (s : ℕ) (ps : List (List ℕ)) (w : AllWhole F ps) (came : List Bool) (c : ℕ)
     (fs : List (List ℕ)) (es : List Event) where
   -- what the next c octets finish, and then what is due behind them
-  pub due-on : (b : Bool)
+  pub due_on : (b : Bool)
       → last_in limit (length came) (length came + c) (came ++ replicate c b) s ps ++ due_from limit u s ps (came ++ replicate c b) fs es
       ≡ last_in limit (length came) (length (came_after u (came ++ replicate c b) fs es)) (came_after u (came ++ replicate c b) fs es) s ps
-  due-on b =
+  due_on b =
       let now = came ++ replicate c b in
       let m = came_more u es fs now in
       let l : length now ≡ length came + c = length-append came (replicate c b) ∙ ap (λ (n : ℕ). length came + n) (length-replicate c b) in
@@ -186,10 +186,10 @@ module _ (F : Family) (laws : Lawful F) (limit : ℕ) (u : SetUp) (s : ℕ) (ps 
       ∙ joined F laws limit (length came) (length now) (length (came_after u now fs es)) (omega arith) (omega arith) (came_after u now fs es) s ps w
 
   -- behind a frame that is lost
-  pub due-behind : due_from limit u s ps (came ++ replicate c false) fs es
+  pub due_behind : due_from limit u s ps (came ++ replicate c false) fs es
       ≡ last_in limit (length came) (length (came_after u (came ++ replicate c false) fs es)) (came_after u (came ++ replicate c false) fs es) s ps
-  due-behind =
-      sym (ap (λ (x : List (List ℕ)). x ++ due_from limit u s ps (came ++ replicate c false) fs es) (none-lost F laws limit came c s ps w)) ∙ due-on false
+  due_behind =
+      sym (ap (λ (x : List (List ℕ)). x ++ due_from limit u s ps (came ++ replicate c false) fs es) (none_lost F laws limit came c s ps w)) ∙ due_on false
 
 -- the wanted ones
 pub wanted_append : (F : Family) (a b : List (List ℕ)) → wanted F (a ++ b) ≡ wanted F a ++ wanted F b

@@ -66,34 +66,34 @@ module _ (u : SetUp) (f : List ℕ) (x : Frame) (opens : open_of u f ≡ Opened.
   frame_is : x ≡ frame_of u f
   frame_is = ((accepted_exactly u f x).0 opens).0
 
-  pub count-lt : x.header.count.0 < 256
-  count-lt = (opened_sound u f x opens).count_bits
+  pub count_lt : x.header.count.0 < 256
+  count_lt = (opened_sound u f x opens).count_bits
 
   pub carried_none : x.header.pointer ≡ idle_data → carried u f ≡ 0
   carried_none e = rw (← frame_is, eq-eqb x.header.pointer idle_data e)
 
-  pub carried-all : (x.header.pointer ≡ idle_data → ⊥) → carried u f ≡ x.size
-  carried-all n = rw (← frame_is, ne_eqb x.header.pointer idle_data n)
+  pub carried_all : (x.header.pointer ≡ idle_data → ⊥) → carried u f ≡ x.size
+  carried_all n = rw (← frame_is, ne_eqb x.header.pointer idle_data n)
 
 module _ {F : Family} {limit : ℕ} (G : Roomy F limit)
     (u : SetUp) (rec : Record) (store out f : List ℕ) (x : Frame) (fine : Fine F limit rec store) (room : limit + most_length ≤ length out)
     (opens : open_of u f ≡ Opened.Accepted x) where
-  no-cause : (x ≡ frame_of u f) × None (read_table_over F limit u rec store out f)
+  no_cause : (x ≡ frame_of u f) × None (read_table_over F limit u rec store out f)
   unfolding store_fits output_fits
-  no-cause =
+  no_cause =
       at_none F limit u rec store out f (opened_sound u f x opens).fits (eq-eqb (length store) (limit * 8) fine.store_whole)
       (le-leb (limit + most_length) (length out) room) fine.follows x opens
 
   pub read : let d : Done = done_by F limit x rec store f in
       ReadOver F limit u rec store out f (Accepted (report_of F x (channel_of x rec) d)) (record_after x rec d) (store_after limit x store d) (output_after F out d)
-  read = accepts F limit u rec store out f x no-cause _ _ _ _ (record { answers = refl; record_left = refl; store_left = refl; output_left = refl })
+  read = accepts F limit u rec store out f x no_cause _ _ _ _ (record { answers = refl; record_left = refl; store_left = refl; output_left = refl })
 
   module _ (real : Octets f) where
     keeps : Keeps F limit u rec store out f
     keeps = accepted_keeps F limit G u rec store out f _ fine.octets real fine.eight (sym read.answers)
 
-    pub fine-after : Fine F limit (record_over F limit u rec store out f) (store_over F limit u rec store out f)
-    fine-after =
+    pub fine_after : Fine F limit (record_over F limit u rec store out f) (store_over F limit u rec store out f)
+    fine_after =
         record {
           eight = keeps.eight;
           store_whole = keeps.store_length ∙ fine.store_whole;
@@ -105,16 +105,16 @@ module _ {F : Family} {limit : ℕ} (G : Roomy F limit)
       in_range : v < 8
       in_range = let s = (opened_sound u f x opens).channel in omega arith
 
-      pub own-after : get_or (record_over F limit u rec store out f).channels v fresh_channel
+      pub own_after : get_or (record_over F limit u rec store out f).channels v fresh_channel
           ≡ record { heard = true; last = x.header.count; state = (done_by F limit x rec store f).state }
       unfolding record_after
-      own-after =
+      own_after =
           let there : v < length rec.channels = omega (arith, in_range, fine.eight) in
           rw (← read.record_left, channel) (get_or-set_same rec.channels v _ fresh_channel there)
 
-      pub part-after : part_of limit v (store_over F limit u rec store out f) ≡ laid (part_of limit v store) 0 (done_by F limit x rec store f).held
+      pub part_after_lem : part_of limit v (store_over F limit u rec store out f) ≡ laid (part_of limit v store) 0 (done_by F limit x rec store f).held
       unfolding store_after
-      part-after =
+      part_after_lem =
           let e : store_over F limit u rec store out f ≡ with_part limit v store (laid (part_of limit v store) 0 (done_by F limit x rec store f).held) =
           sym read.store_left
           ∙ ap (λ (w : ℕ). with_part limit w store (laid (part_of limit w store) 0 (done_by F limit x rec store f).held)) channel in

@@ -26,9 +26,9 @@ use Rattle.demands.specs.History.{Event, Allowed, Delivers, carried}
 use Rattle.demands.specs.History.Event.{lost, arrives, other}
 use Rattle.demands.specs.History.Lent.{both, with_store, with_record}
 use Rattle.demands.specs.Sender.{Sends, stream_of}
-use Rattle.demands.proofs.HandsOut.{handed-together}
+use Rattle.demands.proofs.HandsOut.{handed_together}
 use Rattle.demands.proofs.Hears.Reads.{unheard}
-use Rattle.demands.proofs.History.{Kept, after-lost, arrival-calls, arrival-keeps, other-keeps, record-keeps, store_keeps}
+use Rattle.demands.proofs.History.{Kept, after_lost, arrival_calls, arrival_keeps, other_keeps, record_keeps, store_keeps}
 use Rattle.demands.proofs.Spot.Lost.{lost_free}
 
 module _ {F : Family} {limit : ℕ} (G : Roomy F limit) (u : SetUp) (v : ℕ) (tail : List ℕ) (ps : List (List ℕ)) (w : AllWhole F ps) (h : v < 8) where
@@ -38,18 +38,18 @@ module _ {F : Family} {limit : ℕ} (G : Roomy F limit) (u : SetUp) (v : ℕ) (t
   along [] fs rec store heard missing came k a = tt
   along (lost ∷ es) [] rec store heard missing came k a = tt
   along (lost ∷ es) (f ∷ fs) rec store heard missing came k a =
-      along es fs rec store heard (missing + 1) (came ++ replicate (carried u f) false) (after-lost G w k) a
+      along es fs rec store heard (missing + 1) (came ++ replicate (carried u f) false) (after_lost G w k) a
   along (arrives out ∷ es) [] rec store heard missing came k a = tt
   along (arrives out ∷ es) (f ∷ fs) rec store heard missing came k a = (
-    arrival-calls G w k a.1 out a.0,
+    arrival_calls G w k a.1 out a.0,
     along es fs (record_over F limit u rec store out f) (store_over F limit u rec store out f) true 0 (came ++ replicate (carried u f) true)
-        (arrival-keeps G w k a.1 out a.0) a.2,
+        (arrival_keeps G w k a.1 out a.0) a.2,
   )
   along (other u' both out f ∷ es) fs rec store heard missing came k a =
       along es fs (record_over F limit u' rec store out f) (store_over F limit u' rec store out f) heard missing came
-      (other-keeps G k u' out f h a.0 a.1) a.2
+      (other_keeps G k u' out f h a.0 a.1) a.2
   along (other u' (with_store s) out f ∷ es) fs rec store heard missing came k a =
-      along es fs (record_over F limit u' rec s out f) store heard missing came (record-keeps G k u' s out f a.0) a.1
+      along es fs (record_over F limit u' rec s out f) store heard missing came (record_keeps G k u' s out f a.0) a.1
   along (other u' (with_record r) out f ∷ es) fs rec store heard missing came k a =
       along es fs rec (store_over F limit u' r store out f) heard missing came (store_keeps G k u' r out f a.0) a.1
 
@@ -92,7 +92,7 @@ demand3_fresh = from_fresh source most demand3
 -- the whole history: what the calls hand out together
 pub demand3_together_general : Demand3TogetherGeneral
 demand3_together_general F limit G u v count tail ps fs rec store es w s h eight whole octets follows fresh a =
-    handed-together F G.laws limit u tail ps w fs rec store es
+    handed_together F G.laws limit u tail ps w fs rec store es
     (demand3_general F limit G u v count tail ps fs rec store es w s h eight whole octets follows fresh a)
 
 pub demand3_together : Demand3Together
@@ -101,7 +101,7 @@ demand3_together = demand3_together_general source most source_roomy
 -- from a fresh record
 pub together_fresh : (F : Family) (limit : ℕ) → Roomy F limit → Demand3TogetherFreshOver F limit
 together_fresh F limit G u v count tail ps fs store es w s h whole octets a =
-    handed-together F G.laws limit u tail ps w fs fresh_record store es
+    handed_together F G.laws limit u tail ps w fs fresh_record store es
     (from_fresh F limit (demand3_general F limit G) u v count tail ps fs store es w s h whole octets a)
 
 pub demand3_together_fresh : Demand3TogetherFresh

@@ -44,17 +44,17 @@ module _ (ws behind : List (List ℕ)) where
   drop_exact = ap (drop (length (end_to_end ws))) (laid_append ws behind) ∙ drop_at (marks_of_all ws) (marks_of_all behind) (length (end_to_end ws)) (length_laid ws)
 
   module _ (begun left : List ℕ) where
-    take-midst : take (length (end_to_end ws) + length begun) (end_to_end (ws ++ (begun ++ left) ∷ behind)) ≡ end_to_end ws ++ begun
-    take-midst =
+    take_midst : take (length (end_to_end ws) + length begun) (end_to_end (ws ++ (begun ++ left) ∷ behind)) ≡ end_to_end ws ++ begun
+    take_midst =
         ap (take (length (end_to_end ws) + length begun)) (end_append ws ((begun ++ left) ∷ behind))
         ∙ take-append-add (end_to_end ws) (begun ++ left ++ end_to_end behind) (length begun)
         ∙ ap (λ (l : List ℕ). end_to_end ws ++ take (length begun) l) (append_assoc begun left (end_to_end behind))
         ∙ ap (λ (l : List ℕ). end_to_end ws ++ l) (take-append_seam begun (left ++ end_to_end behind))
 
-    pub drop-midst : 1 ≤ length begun
+    pub drop_midst : 1 ≤ length begun
         → drop (length (end_to_end ws) + length begun) (marks_of_all (ws ++ (begun ++ left) ∷ behind)) ≡ inner left ++ marks_of_all behind
     unfolding marks_of_all
-    drop-midst h =
+    drop_midst h =
         ap₂ (λ (n : ℕ) (m : List Mark). drop (n + length begun) m) (sym (length_laid ws)) (laid_append ws ((begun ++ left) ∷ behind))
         ∙ drop-append-add (marks_of_all ws) (marks_of (begun ++ left) ++ marks_of_all behind) (length begun)
         ∙ ap (λ (m : List Mark). drop (length begun) (m ++ marks_of_all behind)) (marks_split begun left h)
@@ -84,8 +84,8 @@ next_of q ps D h = go (dec_lt D (length q))
         (rest n e ∙ ap₂ (λ (m : ℕ) (x : List (List ℕ)). drop m (marks_of_all x)) k p ∙ drop_exact ws behind)
     by n e (midst ws begun left behind p k a b) =
         opens ws begun left behind p a b
-        (field n e ∙ ap (λ (x : List ℕ). q ++ x) (ap₂ (λ (m : ℕ) (x : List (List ℕ)). take m (end_to_end x)) k p ∙ take-midst ws behind begun left))
-        (rest n e ∙ ap₂ (λ (m : ℕ) (x : List (List ℕ)). drop m (marks_of_all x)) k p ∙ drop-midst ws behind begun left a)
+        (field n e ∙ ap (λ (x : List ℕ). q ++ x) (ap₂ (λ (m : ℕ) (x : List (List ℕ)). take m (end_to_end x)) k p ∙ take_midst ws behind begun left))
+        (rest n e ∙ ap₂ (λ (m : ℕ) (x : List (List ℕ)). drop m (marks_of_all x)) k p ∙ drop_midst ws behind begun left a)
 
     go : Dec (D < length q) → Next q ps (octets_marked (take D (inner q ++ marks_of_all ps))) (drop D (inner q ++ marks_of_all ps))
     go (yes i) =

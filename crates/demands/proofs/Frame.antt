@@ -19,7 +19,7 @@ use Rattle.channel.specs.declared.state.State.TheVariants.{Hunting, Gathering, S
 use Rattle.walk.specs.Steps.{hunted, called_at, agrees_by, agrees, gathered, skipped}
 use Rattle.walk.specs.Walk.{Done, only, ended, walk_of}
 use Rattle.demands.specs.Sender.{Mark, inner, marks_of_all}
-use Rattle.demands.proofs.Aligned.{AllFit, Ran, Standing, exact-ran, exact-state, midst-done}
+use Rattle.demands.proofs.Aligned.{AllFit, Ran, Standing, exact_ran, exact_state, midst_done}
 use Rattle.demands.proofs.Aligned.Standing.{gathering, skipping}
 use Rattle.demands.proofs.Spot.{Free, Inside, Lost, finishes}
 use Rattle.demands.proofs.Stream.{whole_some}
@@ -94,9 +94,9 @@ skipped_on F limit field pointer r e h = rw (eq-eqb pointer (called_at (length f
 
 module _ {F : Family} {limit : ℕ} (G : Roomy F limit) {tail : List ℕ} {ps : List (List ℕ)} {came : List Bool} {D : ℕ} {rest : List Mark} where
   -- nothing came out and the channel hunts
-  pub only-good : (q : List ℕ) (behind : List (List ℕ)) → finishes limit tail ps came D ≡ [] → Lost tail ps (came ++ replicate D true) q behind
+  pub only_good : (q : List ℕ) (behind : List (List ℕ)) → finishes limit tail ps came D ≡ [] → Lost tail ps (came ++ replicate D true) q behind
       → rest ≡ inner q ++ marks_of_all behind → Good F limit (only Hunting) tail ps came D rest
-  only-good q behind f l r =
+  only_good q behind f l r =
       record {
         ran = record { whole = sym f; none_foreign = refl; none_disagrees = refl };
         to_come = q;
@@ -106,26 +106,26 @@ module _ {F : Family} {limit : ℕ} (G : Roomy F limit) {tail : List ℕ} {ps : 
       }
 
   -- the walk came to an exact end, or into the beginning of a packet
-  pub exact-good : (d : Done) (vs behind : List (List ℕ)) → AllWhole F vs → AllFit limit vs → finishes limit tail ps came D ≡ vs
+  pub exact_good : (d : Done) (vs behind : List (List ℕ)) → AllWhole F vs → AllFit limit vs → finishes limit tail ps came D ≡ vs
       → d ≡ ended (walk_of F limit (end_to_end vs)) → Free tail ps (came ++ replicate D true) [] behind → rest ≡ marks_of_all behind
       → Good F limit d tail ps came D rest
   unfolding inner
-  exact-good d vs behind w a f e s r =
+  exact_good d vs behind w a f e s r =
       rw e
       (record {
-        ran = rw f (exact-ran F G.laws limit vs w a);
+        ran = rw f (exact_ran F G.laws limit vs w a);
         to_come = [];
         behind = behind;
         rest_is = r;
-        stands = λ part h. between (exact-state F G.laws limit vs w a) refl s;
+        stands = λ part h. between (exact_state F G.laws limit vs w a) refl s;
       })
 
-  pub midst-good : (d : Done) (vs : List (List ℕ)) (begun left : List ℕ) (behind : List (List ℕ)) → AllWhole F vs → AllFit limit vs
+  pub midst_good : (d : Done) (vs : List (List ℕ)) (begun left : List ℕ) (behind : List (List ℕ)) → AllWhole F vs → AllFit limit vs
       → Whole F (begun ++ left) → finishes limit tail ps came D ≡ vs → d ≡ ended (walk_of F limit (end_to_end vs ++ begun))
       → Inside tail ps (came ++ replicate D true) begun left behind true → rest ≡ inner left ++ marks_of_all behind
       → Good F limit d tail ps came D rest
-  midst-good d vs begun left behind w a p f e s r =
-      let m = midst-done F G.laws limit vs w a begun left p s.some s.more in
+  midst_good d vs begun left behind w a p f e s r =
+      let m = midst_done F G.laws limit vs w a begun left p s.some s.more in
       rw e (record { ran = rw f m.0; to_come = left; behind = behind; rest_is = r; stands = λ part h. go part h m.1 })
     where
       x : Done

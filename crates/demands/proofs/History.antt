@@ -30,13 +30,13 @@ use Rattle.reading.proofs.Laws.{refused_untouched}
 use Rattle.demands.specs.History.{Harmless, Refuses, Call, brought, carried, most_missing, wanted, unwanted}
 use Rattle.demands.specs.Sender.{Mark, Sent, Sends, octets_marked, first_start, between, inner, marks_of_all}
 use Rattle.demands.specs.Sender.Sends.{packets, idle}
-use Rattle.demands.proofs.Calls.{Fine, starts_with, count-lt, read, fine-after, own-after, part-after, carried_none, carried-all, others_keep}
+use Rattle.demands.proofs.Calls.{Fine, starts_with, count_lt, read, fine_after, own_after, part_after_lem, carried_none, carried_all, others_keep}
 use Rattle.demands.proofs.Due.{handed_wanted, tally_wanted, tally_unwanted}
 use Rattle.demands.proofs.Field.{Next, next_of}
 use Rattle.demands.proofs.Frame.{Good}
-use Rattle.demands.proofs.Hears.{Reads, reads_any, not_idle, idle-arrives, packets-arrive}
+use Rattle.demands.proofs.Hears.{Reads, reads_any, not_idle, idle_arrives, packets_arrive}
 use Rattle.demands.proofs.Hears.Reads.{unheard, stale, live}
-use Rattle.demands.proofs.Moves.{Losing, any-whole, loses, idle-loses, nothing_to_come}
+use Rattle.demands.proofs.Moves.{Losing, any_whole, loses, idle_loses, nothing_to_come}
 use Rattle.demands.proofs.Spot.{Lost}
 use Rattle.demands.proofs.Stream.{pointer_is}
 
@@ -83,14 +83,14 @@ module _ {F : Family} {limit : ℕ} (G : Roomy F limit)
       → Next k.to_come k.behind (field_of x f) (drop x.size k.rest)
   field_is x a b = rw (b, k.rest_is) (next_of k.to_come k.behind x.size (rw k.rest_is at a))
 
-  pub points-are : (x : Frame) → x.size ≤ length k.rest → x.header.pointer ≡ first_start 0 (take x.size k.rest)
+  pub points_are : (x : Frame) → x.size ≤ length k.rest → x.header.pointer ≡ first_start 0 (take x.size k.rest)
       → x.header.pointer ≡ called_at x.size (length k.to_come)
-  points-are x a c =
+  points_are x a c =
       c ∙ ap (λ (r : List Mark). first_start 0 (take x.size r)) k.rest_is
-      ∙ pointer_is F G.laws k.to_come k.behind x.size (any-whole F (reads_any k.reads) w) (rw k.rest_is at a)
+      ∙ pointer_is F G.laws k.to_come k.behind x.size (any_whole F (reads_any k.reads) w) (rw k.rest_is at a)
 
-  pub after-lost : Kept F limit u v tail ps rec store heard (missing + 1) (came ++ replicate (carried u f) false) fs
-  after-lost = go (upcoming k.sends)
+  pub after_lost : Kept F limit u v tail ps rec store heard (missing + 1) (came ++ replicate (carried u f) false) fs
+  after_lost = go (upcoming k.sends)
     where
       by : (n : ℕ) (r : List Mark) → Sends u v (after k.count) r fs → carried u f ≡ n → Losing tail ps (came ++ replicate n false) r
           → Kept F limit u v tail ps rec store heard (missing + 1) (came ++ replicate (carried u f) false) fs
@@ -112,11 +112,11 @@ module _ {F : Family} {limit : ℕ} (G : Roomy F limit)
           let o = opened_sound u f x s.opens in
           let l : length (field_of x f) ≡ x.size = o.field in
           by (length (field_of x f)) (drop x.size k.rest) d
-          (carried-all u f x s.opens (not_idle x.size (length k.to_come) x.header.pointer o.most (points-are x a c)) ∙ sym l)
+          (carried_all u f x s.opens (not_idle x.size (length k.to_come) x.header.pointer o.most (points_are x a c)) ∙ sym l)
           (loses (field_of x f) (omega (arith, o.least)) (reads_any k.reads) (field_is x a b))
       go (with_none x s a b d) =
           by 0 k.rest d (carried_none u f x s.opens a)
-          (idle-loses (reads_any k.reads) (nothing_to_come k.to_come (marks_of_all k.behind) (rw k.rest_is at b)) k.rest_is)
+          (idle_loses (reads_any k.reads) (nothing_to_come k.to_come (marks_of_all k.behind) (rw k.rest_is at b)) k.rest_is)
 
 -- an arriving frame: what its steps do is right
 record Coming (F : Family) (limit : ℕ) (u : SetUp) (v : ℕ) (tail : List ℕ) (ps : List (List ℕ)) (rec : Record) (store : List ℕ) (came : List Bool) (count : ℕ)
@@ -146,22 +146,22 @@ module _ {F : Family} {limit : ℕ} (G : Roomy F limit)
       go (with_packets x s a b c d) =
           let o = opened_sound u f x s.opens in
           let l : length (field_of x f) ≡ x.size = o.field in
-          let p = points-are G w k x a c in
+          let p = points_are G w k x a c in
           let there : v < length rec.channels = omega (arith, o.channel, s.channel, k.fine.eight) in
           by x (length (field_of x f)) (drop x.size k.rest) s d
-          (carried-all u f x s.opens (not_idle x.size (length k.to_come) x.header.pointer o.most p) ∙ sym l)
-          (packets-arrive G w (field_of x f) x.header s.not_private k.reads (omega (arith, o.least)) (omega (arith, o.most))
+          (carried_all u f x s.opens (not_idle x.size (length k.to_come) x.header.pointer o.most p) ∙ sym l)
+          (packets_arrive G w (field_of x f) x.header s.not_private k.reads (omega (arith, o.least)) (omega (arith, o.most))
           (p ∙ ap (λ (n : ℕ). called_at n (length k.to_come)) (sym l)) ((each_follows F limit store rec).0 k.fine.follows v there)
-          (count-lt u f x s.opens) s.counted few (field_is G w k x a b))
+          (count_lt u f x s.opens) s.counted few (field_is G w k x a b))
       go (with_none x s a b d) =
           by x 0 k.rest s d (carried_none u f x s.opens a)
-          (idle-arrives G w (field_of x f) x.header s.not_private k.reads a
+          (idle_arrives G w (field_of x f) x.header s.not_private k.reads a
           (nothing_to_come k.to_come (marks_of_all k.behind) (rw k.rest_is at b)) k.rest_is)
 
   module _ (out : List ℕ) (room : limit + most_length ≤ length out) where
-    pub arrival-calls : Call F limit u rec store out f (wanted F (brought limit u tail ps came f)) (unwanted F (brought limit u tail ps came f))
+    pub arrival_calls : Call F limit u rec store out f (wanted F (brought limit u tail ps came f)) (unwanted F (brought limit u tail ps came f))
     unfolding report_of course_of output_after
-    arrival-calls =
+    arrival_calls =
         let c = coming in
         let x = c.x in
         let d : Done = done_by F limit x rec store f in
@@ -177,9 +177,9 @@ module _ {F : Family} {limit : ℕ} (G : Roomy F limit)
           none_disagrees = t.none_disagrees;
         }
 
-    pub arrival-keeps : Kept F limit u v tail ps (record_over F limit u rec store out f) (store_over F limit u rec store out f) true 0 (came ++ replicate (carried u f) true) fs
+    pub arrival_keeps : Kept F limit u v tail ps (record_over F limit u rec store out f) (store_over F limit u rec store out f) true 0 (came ++ replicate (carried u f) true) fs
     unfolding after
-    arrival-keeps =
+    arrival_keeps =
         let c = coming in
         let x = c.x in
         let s = c.sent in
@@ -192,13 +192,13 @@ module _ {F : Family} {limit : ℕ} (G : Roomy F limit)
           behind = g.behind;
           sends = c.sends;
           rest_is = g.rest_is;
-          fine = fine-after G u rec store out f x k.fine room s.opens s.real;
+          fine = fine_after G u rec store out f x k.fine room s.opens s.real;
           reads =
               rw (
-                own-after G u rec store out f x k.fine room s.opens s.real v s.channel,
-                part-after G u rec store out f x k.fine room s.opens s.real v s.channel,
+                own_after G u rec store out f x k.fine room s.opens s.real v s.channel,
+                part_after_lem G u rec store out f x k.fine room s.opens s.real v s.channel,
               )
-              (live refl refl (count-lt u f x s.opens) (omega (arith, s.counted)) refl
+              (live refl refl (count_lt u f x s.opens) (omega (arith, s.counted)) refl
               (g.stands (laid (part_of limit v store) 0 d.held) (starts_with (part_of limit v store) d.held)));
         }
 
@@ -206,9 +206,9 @@ module _ {F : Family} {limit : ℕ} (G : Roomy F limit)
 module _ {F : Family} {limit : ℕ} (G : Roomy F limit)
     {u : SetUp} {v : ℕ} {tail : List ℕ} {ps : List (List ℕ)} {rec : Record} {store : List ℕ} {heard : Bool} {missing : ℕ}
     {came : List Bool} {fs : List (List ℕ)} (k : Kept F limit u v tail ps rec store heard missing came fs) where
-  pub other-keeps : (u' : SetUp) (out f : List ℕ) → v < 8 → Octets f → Harmless F limit v u' rec store out f
+  pub other_keeps : (u' : SetUp) (out f : List ℕ) → v < 8 → Octets f → Harmless F limit v u' rec store out f
       → Kept F limit u v tail ps (record_over F limit u' rec store out f) (store_over F limit u' rec store out f) heard missing came fs
-  other-keeps u' out f h o n =
+  other_keeps u' out f h o n =
       let s = others_keep G v u' rec store out f h k.fine o n in
       record {
         count = k.count;
@@ -222,9 +222,9 @@ module _ {F : Family} {limit : ℕ} (G : Roomy F limit)
       }
 
   -- a refused call that is lent the record alone, and one that is lent the store alone
-  pub record-keeps : (u' : SetUp) (s out f : List ℕ) → Refuses F limit u' rec s out f
+  pub record_keeps : (u' : SetUp) (s out f : List ℕ) → Refuses F limit u' rec s out f
       → Kept F limit u v tail ps (record_over F limit u' rec s out f) store heard missing came fs
-  record-keeps u' s out f r = rw (refused_untouched F limit u' rec s out f r.0 r.1).same_record k
+  record_keeps u' s out f r = rw (refused_untouched F limit u' rec s out f r.0 r.1).same_record k
 
   pub store_keeps : (u' : SetUp) (rec' : Record) (out f : List ℕ) → Refuses F limit u' rec' store out f
       → Kept F limit u v tail ps rec (store_over F limit u' rec' store out f) heard missing came fs

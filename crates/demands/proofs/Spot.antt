@@ -71,11 +71,11 @@ behind_full F laws limit came q behind D ws r m e w f d h =
     ∙ ap (λ (c : List Bool). ws ++ last_in limit a (a + D) c (a + length q + length (end_to_end ws)) r) same
 
 module _ {tail : List ℕ} {ps : List (List ℕ)} {came : List Bool} {q : List ℕ} {behind : List (List ℕ)} where
-  pub free-spot : Free tail ps came q behind → Spot tail ps came q behind
-  free-spot s = record { done = s.done; split = s.split; place = s.place }
+  pub free_spot : Free tail ps came q behind → Spot tail ps came q behind
+  free_spot s = record { done = s.done; split = s.split; place = s.place }
 
-  pub inside-spot : {begun : List ℕ} {b : Bool} → Inside tail ps came begun q behind b → Spot tail ps came q behind
-  inside-spot {begun} s =
+  pub inside_spot : {begun : List ℕ} {b : Bool} → Inside tail ps came begun q behind b → Spot tail ps came q behind
+  inside_spot {begun} s =
       let p : List ℕ = begun ++ q in
       let l : length (end_to_end (s.done ++ p ∷ [])) ≡ length (end_to_end s.done) + length p =
       length_end s.done (p ∷ []) ∙ ap (λ (x : List ℕ). length (end_to_end s.done) + length x) (append-nil p) in
@@ -86,16 +86,16 @@ module _ {tail : List ℕ} {ps : List (List ℕ)} {came : List Bool} {q : List �
         place = omega (arith, length-append begun q, s.place, s.as_many, l, c);
       }
 
-  pub spot-whole : (F : Family) → Spot tail ps came q behind → AllWhole F ps → AllWhole F behind
-  spot-whole F s w = whole_right F s.done behind (rw s.split at w)
+  pub spot_whole : (F : Family) → Spot tail ps came q behind → AllWhole F ps → AllWhole F behind
+  spot_whole F s w = whole_right F s.done behind (rw s.split at w)
 
-  pub inside-whole : (F : Family) {begun : List ℕ} {b : Bool} → Inside tail ps came begun q behind b → AllWhole F ps → Whole F (begun ++ q)
-  inside-whole F {begun} s w = let v = whole_right F s.done ((begun ++ q) ∷ behind) (rw s.split at w) in v.0
+  pub inside_whole : (F : Family) {begun : List ℕ} {b : Bool} → Inside tail ps came begun q behind b → AllWhole F ps → Whole F (begun ++ q)
+  inside_whole F {begun} s w = let v = whole_right F s.done ((begun ++ q) ∷ behind) (rw s.split at w) in v.0
 
   -- the frame stays within q
-  still-free : (a b : List ℕ) (D : ℕ) (c : Bool) → Free tail ps came q behind → q ≡ a ++ b → 1 ≤ length b → D ≡ length a
+  still_free : (a b : List ℕ) (D : ℕ) (c : Bool) → Free tail ps came q behind → q ≡ a ++ b → 1 ≤ length b → D ≡ length a
       → Free tail ps (came ++ replicate D c) b behind
-  still-free a b D c s e h d =
+  still_free a b D c s e h d =
       record {
         done = s.done;
         split = s.split;
@@ -107,9 +107,9 @@ module _ {tail : List ℕ} {ps : List (List ℕ)} {came : List Bool} {q : List �
       go (inl z) = inl z
       go (inr z) = absurd (omega (arith, ap length e, length-append a b))
 
-  pub still-inside : {begun : List ℕ} {x : Bool} (a b : List ℕ) (D : ℕ) (c : Bool) → Inside tail ps came begun q behind x → q ≡ a ++ b
+  pub still_inside : {begun : List ℕ} {x : Bool} (a b : List ℕ) (D : ℕ) (c : Bool) → Inside tail ps came begun q behind x → q ≡ a ++ b
       → 1 ≤ length b → D ≡ length a → 1 ≤ D → Inside tail ps (came ++ replicate D c) (begun ++ a) b behind (x && c)
-  still-inside {begun} {x} a b D c s e h d i =
+  still_inside {begun} {x} a b D c s e h d i =
       record {
         done = s.done;
         split = s.split ∙ ap (λ (l : List ℕ). s.done ++ l ∷ behind) (ap (λ (l : List ℕ). begun ++ l) e ∙ sym (append_assoc begun a b));
@@ -124,9 +124,9 @@ module _ {tail : List ℕ} {ps : List (List ℕ)} {came : List Bool} {q : List �
       }
 
   -- the frame ends with a packet's end, or in a packet that it begins
-  pub after-ends : (ws behind' : List (List ℕ)) (D : ℕ) (c : Bool) → Spot tail ps came q behind → behind ≡ ws ++ behind'
+  pub after_ends : (ws behind' : List (List ℕ)) (D : ℕ) (c : Bool) → Spot tail ps came q behind → behind ≡ ws ++ behind'
       → D ≡ length q + length (end_to_end ws) → Free tail ps (came ++ replicate D c) [] behind'
-  after-ends ws behind' D c s e d =
+  after_ends ws behind' D c s e d =
       record {
         done = s.done ++ ws;
         split = s.split ∙ ap (λ (x : List (List ℕ)). s.done ++ x) e ∙ sym (append_assoc s.done ws behind');
@@ -134,10 +134,10 @@ module _ {tail : List ℕ} {ps : List (List ℕ)} {came : List Bool} {q : List �
         over = inr refl;
       }
 
-  pub after-opens : (ws : List (List ℕ)) (begun left : List ℕ) (behind' : List (List ℕ)) (D : ℕ) (c : Bool) → Spot tail ps came q behind
+  pub after_opens : (ws : List (List ℕ)) (begun left : List ℕ) (behind' : List (List ℕ)) (D : ℕ) (c : Bool) → Spot tail ps came q behind
       → behind ≡ ws ++ (begun ++ left) ∷ behind' → D ≡ length q + length (end_to_end ws) + length begun → 1 ≤ length begun → 1 ≤ length left
       → Inside tail ps (came ++ replicate D c) begun left behind' c
-  after-opens ws begun left behind' D c s e d h i =
+  after_opens ws begun left behind' D c s e d h i =
       let n : ℕ = length q + length (end_to_end ws) in
       record {
         done = s.done ++ ws;
@@ -157,9 +157,9 @@ module _ {tail : List ℕ} {ps : List (List ℕ)} {came : List Bool} {q : List �
   -- the packets that an arriving frame finishes
   module _ {F : Family} {limit : ℕ} (G : Roomy F limit) (D : ℕ) where
     -- if none is under way, those behind q
-    free-skips : Free tail ps came q behind → (b : ℕ) (c : List Bool)
+    free_skips : Free tail ps came q behind → (b : ℕ) (c : List Bool)
         → last_in limit (length came) b c (length tail) ps ≡ last_in limit (length came) b c (length came + length q) behind
-    free-skips s b c = go s.over
+    free_skips s b c = go s.over
       where
         a : ℕ
         a = length came
@@ -174,20 +174,20 @@ module _ {tail : List ℕ} {ps : List (List ℕ)} {came : List Bool} {q : List �
             ∙ ap (λ (n : ℕ). last_in limit a b c n behind) (sym s.place)
 
     module _ {begun : List ℕ} {x : Bool} (s : Inside tail ps came begun q behind x) where
-      came-length : length came ≡ length s.pre + length s.mid
-      came-length = ap length s.came_is ∙ length-append s.pre s.mid
+      came_length : length came ≡ length s.pre + length s.mid
+      came_length = ap length s.came_is ∙ length-append s.pre s.mid
 
-      inside-skips : (b : ℕ) (c : List Bool)
+      inside_skips : (b : ℕ) (c : List Bool)
           → last_in limit (length came) b c (length tail) ps ≡ last_in limit (length came) b c (length s.pre) ((begun ++ q) ∷ behind)
-      inside-skips b c =
+      inside_skips b c =
           let a : ℕ = length came in
           ap (λ (x : List (List ℕ)). last_in limit a b c (length tail) x) s.split
-          ∙ early_all limit a b c (length tail) s.done ((begun ++ q) ∷ behind) (omega (arith, s.place, came-length))
+          ∙ early_all limit a b c (length tail) s.done ((begun ++ q) ∷ behind) (omega (arith, s.place, came_length))
           ∙ ap (λ (n : ℕ). last_in limit a b c n ((begun ++ q) ∷ behind)) (sym s.place)
 
       -- all of the packet under way arrived exactly when its octets so far did
-      inside-arrived : length q ≤ D → all_arrived (take (length (begun ++ q)) (drop (length s.pre) (came ++ replicate D true))) ≡ x
-      inside-arrived h =
+      inside_arrived : length q ≤ D → all_arrived (take (length (begun ++ q)) (drop (length s.pre) (came ++ replicate D true))) ≡ x
+      inside_arrived h =
           let l : length (begun ++ q) ≡ length s.mid + length q = length-append begun q ∙ ap (λ (n : ℕ). n + length q) (sym s.as_many) in
           ap₂ (λ (n : ℕ) (c : List Bool). all_arrived (take n (drop (length s.pre) c)))
           l (ap (λ (c : List Bool). c ++ replicate D true) s.came_is ∙ append_assoc s.pre s.mid (replicate D true))
@@ -202,52 +202,52 @@ module _ {tail : List ℕ} {ps : List (List ℕ)} {came : List Bool} {q : List �
           and-true true = refl
           and-true false = refl
 
-      inside-place : length s.pre + length (begun ++ q) ≡ length came + length q
-      inside-place = omega (arith, came-length, length-append begun q, s.as_many)
+      inside_place : length s.pre + length (begun ++ q) ≡ length came + length q
+      inside_place = omega (arith, came_length, length-append begun q, s.as_many)
 
-      gone-full : (ws r : List (List ℕ)) (m : ℕ) → x ≡ false → behind ≡ ws ++ r → AllWhole F ws → AllFit limit ws → D ≡ length q + m
+      gone_full : (ws r : List (List ℕ)) (m : ℕ) → x ≡ false → behind ≡ ws ++ r → AllWhole F ws → AllFit limit ws → D ≡ length q + m
           → length (end_to_end ws) ≤ m
           → last_in limit (length came) (length came + D) (came ++ replicate D true) (length came + length q + length (end_to_end ws)) r ≡ []
           → finishes limit tail ps came D ≡ ws
-      gone-full ws r m y e w f d h z =
+      gone_full ws r m y e w f d h z =
           let a : ℕ = length came in
           let c : List Bool = came ++ replicate D true in
-          inside-skips (a + D) c
-          ∙ gone limit a (a + D) c (length s.pre) (begun ++ q) behind (inside-arrived (omega arith) ∙ y)
-          ∙ ap (λ (n : ℕ). last_in limit a (a + D) c n behind) inside-place
+          inside_skips (a + D) c
+          ∙ gone limit a (a + D) c (length s.pre) (begun ++ q) behind (inside_arrived (omega arith) ∙ y)
+          ∙ ap (λ (n : ℕ). last_in limit a (a + D) c n behind) inside_place
           ∙ behind_full F G.laws limit came q behind D ws r m e w f d h ∙ ap (λ (l : List (List ℕ)). ws ++ l) z ∙ append-nil ws
 
-      pub skip-full : (ws r : List (List ℕ)) (m : ℕ) → limit < length (begun ++ q) → behind ≡ ws ++ r → AllWhole F ws → AllFit limit ws
+      pub skip_full : (ws r : List (List ℕ)) (m : ℕ) → limit < length (begun ++ q) → behind ≡ ws ++ r → AllWhole F ws → AllFit limit ws
           → D ≡ length q + m → length (end_to_end ws) ≤ m
           → last_in limit (length came) (length came + D) (came ++ replicate D true) (length came + length q + length (end_to_end ws)) r ≡ []
           → finishes limit tail ps came D ≡ ws
-      skip-full ws r m y e w f d h z =
+      skip_full ws r m y e w f d h z =
           let a : ℕ = length came in
           let c : List Bool = came ++ replicate D true in
-          inside-skips (a + D) c
+          inside_skips (a + D) c
           ∙ long limit a (a + D) c (length s.pre) (begun ++ q) behind y
-          ∙ ap (λ (n : ℕ). last_in limit a (a + D) c n behind) inside-place
+          ∙ ap (λ (n : ℕ). last_in limit a (a + D) c n behind) inside_place
           ∙ behind_full F G.laws limit came q behind D ws r m e w f d h ∙ ap (λ (l : List (List ℕ)). ws ++ l) z ∙ append-nil ws
 
-      pub held-full : (ws r : List (List ℕ)) (m : ℕ) → x ≡ true → length (begun ++ q) ≤ limit → behind ≡ ws ++ r → AllWhole F ws
+      pub held_full : (ws r : List (List ℕ)) (m : ℕ) → x ≡ true → length (begun ++ q) ≤ limit → behind ≡ ws ++ r → AllWhole F ws
           → AllFit limit ws → D ≡ length q + m → length (end_to_end ws) ≤ m
           → last_in limit (length came) (length came + D) (came ++ replicate D true) (length came + length q + length (end_to_end ws)) r ≡ []
           → finishes limit tail ps came D ≡ (begun ++ q) ∷ ws
-      held-full ws r m y i e w f d h z =
+      held_full ws r m y i e w f d h z =
           let a : ℕ = length came in
           let c : List Bool = came ++ replicate D true in
-          inside-skips (a + D) c
+          inside_skips (a + D) c
           ∙ due limit a (a + D) c (length s.pre) (begun ++ q) behind
-          (omega (arith, inside-place, s.more)) (omega (arith, inside-place)) i (inside-arrived (omega arith) ∙ y)
+          (omega (arith, inside_place, s.more)) (omega (arith, inside_place)) i (inside_arrived (omega arith) ∙ y)
           ∙ ap (λ (l : List (List ℕ)). (begun ++ q) ∷ l)
-          (ap (λ (n : ℕ). last_in limit a (a + D) c n behind) inside-place
+          (ap (λ (n : ℕ). last_in limit a (a + D) c n behind) inside_place
           ∙ behind_full F G.laws limit came q behind D ws r m e w f d h ∙ ap (λ (l : List (List ℕ)). ws ++ l) z ∙ append-nil ws)
 
-      pub inside-none : AllWhole F behind → D < length q → finishes limit tail ps came D ≡ []
-      inside-none w h =
+      pub inside_none : AllWhole F behind → D < length q → finishes limit tail ps came D ≡ []
+      inside_none w h =
           let a : ℕ = length came in
           let c : List Bool = came ++ replicate D true in
-          inside-skips (a + D) c ∙ late_first F G.laws limit a (a + D) c (length s.pre) (begun ++ q) behind w (omega (arith, inside-place))
+          inside_skips (a + D) c ∙ late_first F G.laws limit a (a + D) c (length s.pre) (begun ++ q) behind w (omega (arith, inside_place))
 
 -- no packet is under way, or one that has lost an octet
 pub data Lost (tail : List ℕ) (ps : List (List ℕ)) (came : List Bool) (q : List ℕ) (behind : List (List ℕ)) : Type 0 where
@@ -255,31 +255,31 @@ pub data Lost (tail : List ℕ) (ps : List (List ℕ)) (came : List Bool) (q : L
   lost_inside : (begun : List ℕ) → Inside tail ps came begun q behind false → Lost tail ps came q behind
 
 module _ {tail : List ℕ} {ps : List (List ℕ)} {came : List Bool} {q : List ℕ} {behind : List (List ℕ)} where
-  pub lost-spot : Lost tail ps came q behind → Spot tail ps came q behind
-  lost-spot (lost_free s) = free-spot s
-  lost-spot (lost_inside begun s) = inside-spot s
+  pub lost_spot : Lost tail ps came q behind → Spot tail ps came q behind
+  lost_spot (lost_free s) = free_spot s
+  lost_spot (lost_inside begun s) = inside_spot s
 
-  pub lost-none : {F : Family} {limit : ℕ} (G : Roomy F limit) (D : ℕ) → Lost tail ps came q behind → AllWhole F behind → D < length q
+  pub lost_none : {F : Family} {limit : ℕ} (G : Roomy F limit) (D : ℕ) → Lost tail ps came q behind → AllWhole F behind → D < length q
       → finishes limit tail ps came D ≡ []
-  lost-none {F} {limit} G D (lost_free s) w h =
+  lost_none {F} {limit} G D (lost_free s) w h =
       let a : ℕ = length came in
       let c : List Bool = came ++ replicate D true in
-      free-skips G D s (a + D) c ∙ late_all F G.laws limit a (a + D) c (a + length q) behind w (omega arith)
-  lost-none {F} {limit} G D (lost_inside begun s) w h = inside-none G D s w h
+      free_skips G D s (a + D) c ∙ late_all F G.laws limit a (a + D) c (a + length q) behind w (omega arith)
+  lost_none {F} {limit} G D (lost_inside begun s) w h = inside_none G D s w h
 
-  pub lost-full : {F : Family} {limit : ℕ} (G : Roomy F limit) (D : ℕ) → Lost tail ps came q behind → (ws r : List (List ℕ)) (m : ℕ)
+  pub lost_full : {F : Family} {limit : ℕ} (G : Roomy F limit) (D : ℕ) → Lost tail ps came q behind → (ws r : List (List ℕ)) (m : ℕ)
       → behind ≡ ws ++ r → AllWhole F ws → AllFit limit ws
       → D ≡ length q + m → length (end_to_end ws) ≤ m
       → last_in limit (length came) (length came + D) (came ++ replicate D true) (length came + length q + length (end_to_end ws)) r ≡ []
       → finishes limit tail ps came D ≡ ws
-  lost-full {F} {limit} G D (lost_free s) ws r m e w f d h z =
+  lost_full {F} {limit} G D (lost_free s) ws r m e w f d h z =
       let a : ℕ = length came in
       let c : List Bool = came ++ replicate D true in
-      free-skips G D s (a + D) c
+      free_skips G D s (a + D) c
       ∙ behind_full F G.laws limit came q behind D ws r m e w f d h ∙ ap (λ (l : List (List ℕ)). ws ++ l) z ∙ append-nil ws
-  lost-full {F} {limit} G D (lost_inside begun s) ws r m e w f d h z = gone-full G D s ws r m refl e w f d h z
+  lost_full {F} {limit} G D (lost_inside begun s) ws r m e w f d h z = gone_full G D s ws r m refl e w f d h z
 
-  pub lost-still : (a b : List ℕ) (D : ℕ) (c : Bool) → Lost tail ps came q behind → q ≡ a ++ b → 1 ≤ length b → D ≡ length a → 1 ≤ D
+  pub lost_still : (a b : List ℕ) (D : ℕ) (c : Bool) → Lost tail ps came q behind → q ≡ a ++ b → 1 ≤ length b → D ≡ length a → 1 ≤ D
       → Lost tail ps (came ++ replicate D c) b behind
-  lost-still a b D c (lost_free s) e h d i = lost_free (still-free a b D c s e h d)
-  lost-still a b D c (lost_inside begun s) e h d i = lost_inside (begun ++ a) (still-inside a b D c s e h d i)
+  lost_still a b D c (lost_free s) e h d i = lost_free (still_free a b D c s e h d)
+  lost_still a b D c (lost_inside begun s) e h d i = lost_inside (begun ++ a) (still_inside a b D c s e h d i)

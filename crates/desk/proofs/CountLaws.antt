@@ -27,15 +27,15 @@ unfolding totals_refused
 counts_refused t n m p q = rw (p, q)
 
 module _ (t : Totals) (r : Report) (n : ℕ) (e : n ≡ min (t.frames + 1) most) where
-  pub counts-here : (s : Sums) → r.header.channel < 8 → s ≡ counted_of (get_or t.channels r.header.channel no_sums) r
+  pub counts_here : (s : Sums) → r.header.channel < 8 → s ≡ counted_of (get_or t.channels r.header.channel no_sums) r
       → ◌≡◌ {A = Totals} (record { channels = set t.channels r.header.channel s; frames = n; refused = t.refused }) (totals_with t r)
   unfolding totals_with
-  counts-here s h q = rw (lt-ltb r.header.channel 8 h, e, q)
+  counts_here s h q = rw (lt-ltb r.header.channel 8 h, e, q)
 
-  pub counts-nowhere : 8 ≤ r.header.channel
+  pub counts_nowhere : 8 ≤ r.header.channel
       → ◌≡◌ {A = Totals} (record { channels = t.channels; frames = n; refused = t.refused }) (totals_with t r)
   unfolding totals_with
-  counts-nowhere h = rw (le-ltb r.header.channel 8 h, e)
+  counts_nowhere h = rw (le-ltb r.header.channel 8 h, e)
 
 pub after_refused : (t : Totals) (a : Answer) (r : Refusal) (n : Totals) → a ≡ Refused r → n ≡ totals_refused t → n ≡ totals_after t a
 unfolding totals_after

@@ -57,27 +57,27 @@ ended_all (End.Cut k) whole rest h = h
 ended_all (End.Oversize r) whole rest h = h
 
 module _ (limit : ℕ) (field : List ℕ) where
-  from-walk : (d : List ℕ) → AllWhole source (ended (walk_of source limit d)).whole
-  from-walk d = ended_all (walk_of source limit d).end (walk_of source limit d).whole (walk_of source limit d).rest (walk_all limit d)
+  from_walk : (d : List ℕ) → AllWhole source (ended (walk_of source limit d)).whole
+  from_walk d = ended_all (walk_of source limit d).end (walk_of source limit d).whole (walk_of source limit d).rest (walk_all limit d)
 
-  hunted-all : (pointer : ℕ) → AllWhole source (hunted source limit field pointer).whole
+  hunted_all : (pointer : ℕ) → AllWhole source (hunted source limit field pointer).whole
   unfolding hunted
-  hunted-all pointer =
-      pick_all (eqb pointer none_starts) (only Hunting) (ended (walk_of source limit (drop pointer field))) tt (from-walk (drop pointer field))
+  hunted_all pointer =
+      pick_all (eqb pointer none_starts) (only Hunting) (ended (walk_of source limit (drop pointer field))) tt (from_walk (drop pointer field))
 
-  resumed-all : (part : List ℕ) (pointer : ℕ) (s : State) → AllWhole source (resumed source limit part field pointer s).whole
+  resumed_all : (part : List ℕ) (pointer : ℕ) (s : State) → AllWhole source (resumed source limit part field pointer s).whole
   unfolding resumed gathered skipped
-  resumed-all part pointer Hunting = hunted-all pointer
-  resumed-all part pointer (Gathering k) =
+  resumed_all part pointer Hunting = hunted_all pointer
+  resumed_all part pointer (Gathering k) =
       pick_all (agrees (length field) k (size_of (take k part ++ field)) pointer) (ended (walk_of source limit (take k part ++ field)))
-      (disagreed (Gathering k) (hunted source limit field pointer)) (from-walk (take k part ++ field)) (hunted-all pointer)
-  resumed-all part pointer (Skipping r) =
+      (disagreed (Gathering k) (hunted source limit field pointer)) (from_walk (take k part ++ field)) (hunted_all pointer)
+  resumed_all part pointer (Skipping r) =
       pick_all (eqb pointer (called_at (length field) r))
       (pick (leb r (length field)) (ended (walk_of source limit (drop r field))) (only (Skipping (r - length field))))
       (disagreed (Skipping r) (hunted source limit field pointer))
       (pick_all (leb r (length field)) (ended (walk_of source limit (drop r field))) (only (Skipping (r - length field)))
-      (from-walk (drop r field)) tt)
-      (hunted-all pointer)
+      (from_walk (drop r field)) tt)
+      (hunted_all pointer)
 
   steps_all : (part : List ℕ) (h : Header) (c : Channel) → AllWhole source (steps_of source limit part field h c).whole
   unfolding steps_of
@@ -86,7 +86,7 @@ module _ (limit : ℕ) (field : List ℕ) where
       (pick (not (eqb (gap_for c h) 0)) (broke c.state (hunted source limit field h.pointer)) (resumed source limit part field h.pointer c.state))
       tt
       (pick_all (not (eqb (gap_for c h) 0)) (broke c.state (hunted source limit field h.pointer)) (resumed source limit part field h.pointer c.state)
-      (hunted-all h.pointer) (resumed-all part h.pointer c.state))
+      (hunted_all h.pointer) (resumed_all part h.pointer c.state))
 
 -- how many of the packets are delivered
 delivered_in : List (List ℕ) → ℕ

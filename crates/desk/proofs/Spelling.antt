@@ -13,17 +13,17 @@ use Rattle.desk.specs.Numbers.{digit_of, digits_from, largest, decimal_of}
 use Rattle.desk.specs.declared.words.Number.TheVariants.{Value, Bad}
 
 module _ (b : ℕ) where
-  pub digit-below : b < 48 → 10 ≡ digit_of b
+  pub digit_below : b < 48 → 10 ≡ digit_of b
   unfolding digit_of
-  digit-below h = rw (lt-ltb b 48 h)
+  digit_below h = rw (lt-ltb b 48 h)
 
-  pub digit-above : 57 < b → 10 ≡ digit_of b
+  pub digit_above : 57 < b → 10 ≡ digit_of b
   unfolding digit_of
-  digit-above h = rw (le-ltb b 48 (omega arith), lt-ltb 57 b h)
+  digit_above h = rw (le-ltb b 48 (omega arith), lt-ltb 57 b h)
 
-  pub digit-is : 48 ≤ b → b ≤ 57 → b - 48 ≡ digit_of b
+  pub digit_is : 48 ≤ b → b ≤ 57 → b - 48 ≡ digit_of b
   unfolding digit_of
-  digit-is h k = rw (le-ltb b 48 h, le-ltb 57 b k)
+  digit_is h k = rw (le-ltb b 48 h, le-ltb 57 b k)
 
 pub no_word : (w : List ℕ) → length w ≡ 0 → Bad ≡ decimal_of w
 unfolding decimal_of
@@ -42,14 +42,14 @@ unfolding digits_from
 one_digit w n i d h e = rw (drop-cons w i 0 h, add-one, e)
 
 module _ (w : List ℕ) (n i d : ℕ) (h : i < length w) (e : d ≡ digit_of (get_or w i 0)) (inv : digits_from n (drop i w) ≡ decimal_of w) where
-  pub not-a-digit : 9 < d → Bad ≡ decimal_of w
-  not-a-digit k = sym (one_digit w n i d h e ∙ rw (lt-ltb 9 d k)) ∙ inv
+  pub not_a_digit : 9 < d → Bad ≡ decimal_of w
+  not_a_digit k = sym (one_digit w n i d h e ∙ rw (lt-ltb 9 d k)) ∙ inv
 
   pub too_large : d ≤ 9 → largest < n * 10 + d → Bad ≡ decimal_of w
   too_large k l = sym (one_digit w n i d h e ∙ rw (le-ltb 9 d k, lt-ltb largest (n * 10 + d) l)) ∙ inv
 
-  pub digit-more : d ≤ 9 → n * 10 + d ≤ largest → digits_from (n * 10 + d) (drop (i + 1) w) ≡ decimal_of w
-  digit-more k l = sym (one_digit w n i d h e ∙ rw (le-ltb 9 d k, le-ltb largest (n * 10 + d) l)) ∙ inv
+  pub digit_more : d ≤ 9 → n * 10 + d ≤ largest → digits_from (n * 10 + d) (drop (i + 1) w) ≡ decimal_of w
+  digit_more k l = sym (one_digit w n i d h e ∙ rw (le-ltb 9 d k, le-ltb largest (n * 10 + d) l)) ∙ inv
 
 pub no_more : (w : List ℕ) (n i : ℕ) → length w ≤ i → digits_from n (drop i w) ≡ decimal_of w → Value n ≡ decimal_of w
 unfolding digits_from

@@ -23,9 +23,9 @@ use Rattle.frame.specs.Inside.{open_from}
 use Rattle.frame.specs.Opening.{secondary_size, word_of, row6, row7, row9, row11, open_of}
 use Rattle.frame.specs.SetUp.{fits_of}
 use Rattle.frame.specs.Theorems.{Points, word_number}
-use Rattle.frame.proofs.ClosingLaws.{bit_lt, length-header, word_length, sizes}
+use Rattle.frame.proofs.ClosingLaws.{bit_lt, length_header, word_length, sizes}
 use Rattle.frame.proofs.HeaderLaws.{header_fills, header_tells, header_has}
-use Rattle.frame.proofs.OpeningSteps.{checked, right-header, right-frame, wrong-pointer}
+use Rattle.frame.proofs.OpeningSteps.{checked, right_header, right_frame, wrong_pointer}
 use Rattle.frame.proofs.RowLaws.{row12_exactly}
 use Rattle.frame.proofs.SetUpLaws.{in_range}
 
@@ -51,30 +51,30 @@ bit_is false = refl
 
 -- they are read back from the header's octets, and the version is 00
 module _ (u : SetUp) (c : ℕ) (m : MasterCount) (k : ChannelCount) (b : Bool) (p : ℕ) (r : List ℕ) where
-  value-back : (n : FrameItem) → value_in frame_header (header_octets u c m k b p ++ r) 0 n
+  value_back : (n : FrameItem) → value_in frame_header (header_octets u c m k b p ++ r) 0 n
       ≡ header_value u c m k b p n % 2 ^ width_among frame_header.told frame_header.items n
   unfolding header_octets
-  value-back n = reads_back frame_header header_fills header_tells (header_value u c m k b p) [] r n (header_has n)
+  value_back n = reads_back frame_header header_fills header_tells (header_value u c m k b p) [] r n (header_has n)
 
-  header-back : u.spacecraft < 1024 → c < 8 → m.0 < 256 → k.0 < 256 → p < 2048
+  header_back : u.spacecraft < 1024 → c < 8 → m.0 < 256 → k.0 < 256 → p < 2048
       → header_of (header_octets u c m k b p ++ r) ≡ closed_header u.spacecraft c b m k p
   unfolding header_of width_among
-  header-back hs hc hm hk hp = λ i. record {
-    spacecraft = (value-back spacecraft ∙ mod-eq_of_lt hs) i;
-    channel = (value-back channel ∙ mod-eq_of_lt hc) i;
-    flagged = (ap (λ (x : ℕ). eqb x 1) (value-back control_word_flag ∙ mod-eq_of_lt (bit_lt b)) ∙ bit_is b) i;
-    master = record { 0 = (value-back master_count ∙ mod-eq_of_lt hm) i };
-    count = record { 0 = (value-back channel_count ∙ mod-eq_of_lt hk) i };
-    secondary = ap (λ (x : ℕ). eqb x 1) (value-back secondary_header_flag) i;
-    synchronisation = ap (λ (x : ℕ). eqb x 1) (value-back synchronisation_flag) i;
-    order = ap (λ (x : ℕ). eqb x 1) (value-back packet_order_flag) i;
-    segment = value-back segment_length_id i;
-    pointer = (value-back first_header_pointer ∙ mod-eq_of_lt hp) i;
+  header_back hs hc hm hk hp = λ i. record {
+    spacecraft = (value_back spacecraft ∙ mod-eq_of_lt hs) i;
+    channel = (value_back channel ∙ mod-eq_of_lt hc) i;
+    flagged = (ap (λ (x : ℕ). eqb x 1) (value_back control_word_flag ∙ mod-eq_of_lt (bit_lt b)) ∙ bit_is b) i;
+    master = record { 0 = (value_back master_count ∙ mod-eq_of_lt hm) i };
+    count = record { 0 = (value_back channel_count ∙ mod-eq_of_lt hk) i };
+    secondary = ap (λ (x : ℕ). eqb x 1) (value_back secondary_header_flag) i;
+    synchronisation = ap (λ (x : ℕ). eqb x 1) (value_back synchronisation_flag) i;
+    order = ap (λ (x : ℕ). eqb x 1) (value_back packet_order_flag) i;
+    segment = value_back segment_length_id i;
+    pointer = (value_back first_header_pointer ∙ mod-eq_of_lt hp) i;
   }
 
-  version-back : row7 (header_octets u c m k b p ++ r) ≡ false
+  version_back : row7 (header_octets u c m k b p ++ r) ≡ false
   unfolding row7 width_among
-  version-back = rw (value-back version)
+  version_back = rw (value_back version)
 
 -- a run with its check behind it passes row 6
 check_passes : (u : SetUp) (f : List ℕ) (b : Bool) → u.error_control ≡ b → row6 u (with_check u f) ≡ false
@@ -114,45 +114,45 @@ module _ (u : SetUp) (channel : ℕ) (m : MasterCount) (k : ChannelCount) (w : C
   unfolding frame_around
   parts = check_part u (header_octets u channel m k (flagged_by w) p ++ field ++ word_octets w) u.error_control refl
 
-  behind-header : (r : List ℕ) × (frame_around u channel m k w p field ≡ header_octets u channel m k (flagged_by w) p ++ (field ++ r))
-  behind-header =
+  behind_header : (r : List ℕ) × (frame_around u channel m k w p field ≡ header_octets u channel m k (flagged_by w) p ++ (field ++ r))
+  behind_header =
       let h = header_octets u channel m k (flagged_by w) p in (
         word_octets w ++ parts.0,
         parts.1 ∙ append_assoc (h ++ field) (word_octets w) parts.0 ∙ append_assoc h field (word_octets w ++ parts.0),
       )
 
-  pub around-field : take (close_size u w) (drop 6 (frame_around u channel m k w p field)) ≡ field
-  around-field =
-      let x = behind-header in
+  pub around_field : take (close_size u w) (drop 6 (frame_around u channel m k w p field)) ≡ field
+  around_field =
+      let x = behind_header in
       ap (λ (l : List ℕ). take (close_size u w) (drop 6 l)) x.1
-      ∙ ap (take (close_size u w)) (drop_at (header_octets u channel m k (flagged_by w) p) (field ++ x.0) 6 (length-header u channel m k (flagged_by w) p))
+      ∙ ap (take (close_size u w)) (drop_at (header_octets u channel m k (flagged_by w) p) (field ++ x.0) 6 (length_header u channel m k (flagged_by w) p))
       ∙ take_at field x.0 (close_size u w) hf
 
   module _ (fits : fits_of u ≡ true) (hc : channel < 8) (hm : m.0 < 256) (hk : k.0 < 256) (lp : p < 2048) where
     -- its header's values, and how far it passes
-    around-header : closed_header u.spacecraft channel (flagged_by w) m k p ≡ header_of (frame_around u channel m k w p field)
-    around-header =
-        let t = behind-header in
+    around_header : closed_header u.spacecraft channel (flagged_by w) m k p ≡ header_of (frame_around u channel m k w p field)
+    around_header =
+        let t = behind_header in
         let n = (in_range u).0 fits in
-        rw t.1 (sym (header-back u channel m k (flagged_by w) p (field ++ t.0) (omega arith) hc hm hk lp))
+        rw t.1 (sym (header_back u channel m k (flagged_by w) p (field ++ t.0) (omega arith) hc hm hk lp))
 
-    around-six : open_from 6 u (frame_around u channel m k w p field) ≡ open_of u (frame_around u channel m k w p field)
+    around_six : open_from 6 u (frame_around u channel m k w p field) ≡ open_of u (frame_around u channel m k w p field)
     unfolding row9 frame_around
-    around-six =
+    around_six =
         let f = frame_around u channel m k w p field in
         let h = header_octets u channel m k (flagged_by w) p in
         let x = parts in
-        let t = behind-header in
+        let t = behind_header in
         let s = sizes u w fits in
-        let lh = length-header u channel m k (flagged_by w) p in
+        let lh = length_header u channel m k (flagged_by w) p in
         let lw = word_length w in
         let whole : length f ≡ u.length = ap length x.1 ∙ simp length-append (omega arith) in
-        let ev : row7 f ≡ false = rw t.1 (version-back u channel m k (flagged_by w) p (field ++ t.0)) in
-        right-header u f (closed_header u.spacecraft channel (flagged_by w) m k p) around-header ev refl refl
+        let ev : row7 f ≡ false = rw t.1 (version_back u channel m k (flagged_by w) p (field ++ t.0)) in
+        right_header u f (closed_header u.spacecraft channel (flagged_by w) m k p) around_header ev refl refl
         ∙ checked u f fits whole (check_passes u (h ++ field ++ word_octets w) u.error_control refl)
 
     -- a pointer that test 12 lets pass, and one that it does not
-    pub around-opens : word_number w < 2 ^ 32 → Points p (close_size u w)
+    pub around_opens : word_number w < 2 ^ 32 → Points p (close_size u w)
         → open_of u (frame_around u channel m k w p field)
         ≡ Accepted (record {
           header = closed_header u.spacecraft channel (flagged_by w) m k p;
@@ -161,25 +161,25 @@ module _ (u : SetUp) (channel : ℕ) (m : MasterCount) (k : ChannelCount) (w : C
           size = close_size u w;
         })
     unfolding row11 secondary_size close_size
-    around-opens hw hp =
+    around_opens hw hp =
         let f = frame_around u channel m k w p field in
         let h = header_octets u channel m k (flagged_by w) p in
         let D = close_size u w in
         let g = closed_header u.spacecraft channel (flagged_by w) m k p in
         let x = parts in
         let s = sizes u w fits in
-        let lh = length-header u channel m k (flagged_by w) p in
+        let lh = length_header u channel m k (flagged_by w) p in
         let ew : word_number w ≡ word_of g f (6 + D) = rw x.1 (word_back w g (h ++ field) x.0 (6 + D) refl hw (simp length-append (omega arith))) in
         sym (
-        right-frame u f g 0 D around-header refl refl s.least refl ((row12_exactly g D).1.1 (λ s. hp)) (word_number w) ew
-        ∙ around-six)
+        right_frame u f g 0 D around_header refl refl s.least refl ((row12_exactly g D).1.1 (λ s. hp)) (word_number w) ew
+        ∙ around_six)
 
-    pub around-refused : (Points p (close_size u w) → ⊥) → open_of u (frame_around u channel m k w p field) ≡ Refused PointerPlace
+    pub around_refused : (Points p (close_size u w) → ⊥) → open_of u (frame_around u channel m k w p field) ≡ Refused PointerPlace
     unfolding row11 secondary_size close_size
-    around-refused hp =
+    around_refused hp =
         let D = close_size u w in
         let g = closed_header u.spacecraft channel (flagged_by w) m k p in
         let s = sizes u w fits in
         sym (
-        wrong-pointer u (frame_around u channel m k w p field) g 0 D around-header refl refl s.least refl ((row12_exactly g D).0.1 (refl, hp))
-        ∙ around-six)
+        wrong_pointer u (frame_around u channel m k w p field) g 0 D around_header refl refl s.least refl ((row12_exactly g D).0.1 (refl, hp))
+        ∙ around_six)

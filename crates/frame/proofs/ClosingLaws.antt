@@ -41,11 +41,11 @@ numbered_three u c m k b p hs hc hm hk =
     rw (mod-eq_of_lt hs, mod-eq_of_lt hc, mod-eq_of_lt (bit_lt b), mod-eq_of_lt hm, mod-eq_of_lt hk) (omega arith)
 
 module _ (u : SetUp) (channel : ℕ) (m : MasterCount) (k : ChannelCount) (b : Bool) (p : ℕ) where
-  pub header-three : u.spacecraft < 1024 → channel < 8 → m.0 < 256 → k.0 < 256
+  pub header_three : u.spacecraft < 1024 → channel < 8 → m.0 < 256 → k.0 < 256
       → header_octets u channel m k b p
       ≡ octets_of 2 (u.spacecraft * 16 + channel * 2 + bit b) ++ octets_of 2 (m.0 * 256 + k.0) ++ octets_of 2 (6144 + p % 2048)
   unfolding header_octets laid_out
-  header-three hs hc hm hk =
+  header_three hs hc hm hk =
       let a = u.spacecraft * 16 + channel * 2 + bit b in
       let o = m.0 * 256 + k.0 in
       let z = 6144 + p % 2048 in
@@ -54,13 +54,13 @@ module _ (u : SetUp) (channel : ℕ) (m : MasterCount) (k : ChannelCount) (b : B
       ∙ ap (λ (l : List ℕ). l ++ octets_of 2 z) (sym (octets_append 2 2 a o (omega arith)))
 
   -- of the pointer the low 11 bits are written
-  pub header-low : header_octets u channel m k b p ≡ header_octets u channel m k b (p % 2048)
+  pub header_low : header_octets u channel m k b p ≡ header_octets u channel m k b (p % 2048)
   unfolding header_octets laid_out numbered
-  header-low = rw (mod-mod p 2048)
+  header_low = rw (mod-mod p 2048)
 
-  pub length-header : length (header_octets u channel m k b p) ≡ 6
+  pub length_header : length (header_octets u channel m k b p) ≡ 6
   unfolding header_octets
-  length-header = laid_out_length frame_header (header_value u channel m k b p) ∙ header_six
+  length_header = laid_out_length frame_header (header_value u channel m k b p) ∙ header_six
 
 -- three numbers written one behind the other from the start
 pub three_laid : (d d₁ d₂ d₃ : List ℕ) (a o z : ℕ) → 6 ≤ length d → d₁ ≡ laid d 0 (octets_of 2 a) → d₂ ≡ laid d₁ 2 (octets_of 2 o)
@@ -127,13 +127,13 @@ sizes u w e =
 
 -- the header, the word and the check written into the output make the frame
 module _ (u : SetUp) (channel : ℕ) (m : MasterCount) (k : ChannelCount) (w : ControlWord) (p : ℕ) (out o₁ o₂ o₃ : List ℕ) (at : ℕ) where
-  pub frame-written : fits_of u ≡ true → length out ≡ u.length → at + length (word_octets w) + pick u.error_control 2 0 ≡ u.length
+  pub frame_written_lem : fits_of u ≡ true → length out ≡ u.length → at + length (word_octets w) + pick u.error_control 2 0 ≡ u.length
       → o₁ ≡ laid out 0 (header_octets u channel m k (flagged_by w) p) → o₂ ≡ laid o₁ at (word_octets w) → o₃ ≡ checked_output u o₂
       → o₃ ≡ frame_around u channel m k w p (field_in u w out)
   unfolding frame_around field_in
-  frame-written fits whole place e₁ e₂ e₃ =
+  frame_written_lem fits whole place e₁ e₂ e₃ =
       let h = header_octets u channel m k (flagged_by w) p in
-      let lh : length h ≡ 6 = length-header u channel m k (flagged_by w) p in
+      let lh : length h ≡ 6 = length_header u channel m k (flagged_by w) p in
       let s = sizes u w fits in
       let ea : at ≡ length h + close_size u w = omega arith in
       let t = drop (length h + close_size u w + length (word_octets w)) out in

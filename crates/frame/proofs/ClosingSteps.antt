@@ -14,7 +14,7 @@ use Rattle.frame.specs.Opening.{row1}
 use Rattle.frame.specs.SetUp.{fits_of}
 use Rattle.frame.specs.Theorems.{Row20Exactly, Row25Exactly}
 use Rattle.table.specs.Table.{First, None}
-use Rattle.table.proofs.Laws.{first_gives, none-gives}
+use Rattle.table.proofs.Laws.{first_gives, none_gives}
 
 -- rows 20 and 25
 pub row20_exactly : Row20Exactly
@@ -64,4 +64,4 @@ module _ (u : SetUp) (channel : ℕ) (m : MasterCount) (k : ChannelCount) (w : C
   pub written : None (close_table u channel out)
       → (Written ≡ close_of u channel out) × (frame_around u channel m k w p (field_in u w out) ≡ output_of u channel m k w p out)
   unfolding close_of output_of
-  written n = (sym (none-gives Refused Written (close_table u channel out) n), sym (none-gives (λ _. out) _ (close_table u channel out) n))
+  written n = (sym (none_gives Refused Written (close_table u channel out) n), sym (none_gives (λ _. out) _ (close_table u channel out) n))

@@ -25,11 +25,11 @@ use Rattle.frame.specs.Opening.{row1, row5, row7, row8, row10, secondary_size, d
 use Rattle.frame.specs.SetUp.{fits_of}
 use Rattle.table.specs.Table.{None, first_cause}
 use Rattle.frame.specs.Theorems.{NumberExactly, AcceptedExactly, FrameRefused, FrameAccepted, ValuesFourteen, RefusedZero, FourteenValues, AcceptedValues, Sound, OpenedSound, CloseExactly, CloseWritten, CloseUntouched, ClosePasses, CloseAround, ClosedOpens, ClosedLow, ClosedRefused, own_word, OpenedCloses, GapExactly}
-use Rattle.frame.proofs.ClosedOpens.{pointer_lt, around-opens, around-refused, around-field}
-use Rattle.frame.proofs.ClosingLaws.{header-low, sizes}
+use Rattle.frame.proofs.ClosedOpens.{pointer_lt, around_opens, around_refused, around_field}
+use Rattle.frame.proofs.ClosingLaws.{header_low, sizes}
 use Rattle.frame.proofs.ClosingSteps.{passed, passing, refused, written}
 use Rattle.frame.proofs.NumberLaws.{number_one, number_some, close_number_one, close_number_some}
-use Rattle.frame.proofs.OpenedCloses.{header-again, word_again, check_again, parts_again}
+use Rattle.frame.proofs.OpenedCloses.{header_again, word_again, check_again, parts_again}
 use Rattle.frame.proofs.OpeningSteps.{filled}
 use Rattle.frame.proofs.RowLaws.{row6_zero, row9_zero, row11_whole, row12_points}
 use Rattle.frame.proofs.SetUpLaws.{in_range}
@@ -37,7 +37,7 @@ pub use Rattle.frame.proofs.ClosingLaws.{around_octets}
 pub use Rattle.frame.proofs.ClosingSteps.{row20_exactly, row25_exactly}
 pub use Rattle.frame.proofs.RowLaws.{row12_exactly}
 pub use Rattle.frame.proofs.SetUpLaws.{row1_exactly, row1_fits}
-use Rattle.table.proofs.Laws.{next, none-gives, first-exactly, none-exactly, made}
+use Rattle.table.proofs.Laws.{next, none_gives, first_exactly, none_exactly, made}
 
 -- opening
 abbrev first_value : Opened → ℕ
@@ -47,7 +47,7 @@ pub number_exactly : NumberExactly
 unfolding open_of values_of
 number_exactly u f r =
     rw (made first_value Refused (Accepted (frame_of u f)) (open_table u f))
-    (first-exactly number_of 0 number_one (λ r e. omega (arith, number_some r)) (open_table u f) r)
+    (first_exactly number_of 0 number_one (λ r e. omega (arith, number_some r)) (open_table u f) r)
 
 -- what is accepted is not refused
 not_both : (x : Frame) (r : Refusal) → Accepted x ≡ Refused r → ⊥
@@ -56,7 +56,7 @@ not_both x r q = let z : ◌≡◌ {A = ℕ} 0 1 = cc in omega arith
 pub accepted_exactly : AcceptedExactly
 unfolding open_of
 accepted_exactly u f x =
-    let e = none-exactly Refused (Accepted (frame_of u f)) (Accepted x) (λ r q. not_both x r (sym q)) (open_table u f) in
+    let e = none_exactly Refused (Accepted (frame_of u f)) (Accepted x) (λ r q. not_both x r (sym q)) (open_table u f) in
     (λ o. let h = e.0 o in (cc h.0, h.1), λ h. e.1 (ap Accepted (sym h.0), h.1))
 
 -- row 1 decides nothing where the set-up fits
@@ -64,7 +64,7 @@ pub frame_refused : FrameRefused
 unfolding open_of open_table row1
 frame_refused u f r a =
     rw (next Refused (Accepted (frame_of u f)) SetUpRange (frame_table u f) {b = row1 u} (rw a))
-    (first-exactly Refused (Accepted (frame_of u f)) (λ s r q. cc) (not_both (frame_of u f)) (frame_table u f) r)
+    (first_exactly Refused (Accepted (frame_of u f)) (λ s r q. cc) (not_both (frame_of u f)) (frame_table u f) r)
 
 pub frame_accepted : FrameAccepted
 unfolding open_table row1
@@ -108,12 +108,12 @@ pub close_exactly : CloseExactly
 unfolding close_of close_value_of
 close_exactly u channel out r =
     rw (made close_value_of CloseRefused Written (close_table u channel out))
-    (first-exactly close_number_of 0 close_number_one (λ r e. omega (arith, close_number_some r)) (close_table u channel out) r)
+    (first_exactly close_number_of 0 close_number_one (λ r e. omega (arith, close_number_some r)) (close_table u channel out) r)
 
 pub close_written : CloseWritten
 unfolding close_of close_value_of
 close_written u channel out =
-    let e = none-exactly close_number_of 0 0 (λ r q. omega (arith, close_number_some r)) (close_table u channel out) in
+    let e = none_exactly close_number_of 0 0 (λ r q. omega (arith, close_number_some r)) (close_table u channel out) in
     rw (made close_value_of CloseRefused Written (close_table u channel out)) (λ v. (e.0 v).1, λ n. e.1 (refl, n))
 
 -- what is written is not refused
@@ -123,7 +123,7 @@ not_refused r q = let z : ◌≡◌ {A = ℕ} 0 1 = cc in omega arith
 pub close_untouched : CloseUntouched
 unfolding close_of
 close_untouched u channel m k w p out r e =
-    let f = (first-exactly CloseRefused Written (λ s r q. cc) not_refused (close_table u channel out) r).0 e in
+    let f = (first_exactly CloseRefused Written (λ s r q. cc) not_refused (close_table u channel out) r).0 e in
     sym (refused u channel m k w p out r f).1
 
 -- what passes all rows
@@ -169,13 +169,13 @@ opened_sound u f x e =
 -- what is written found no cause
 none_found : (u : SetUp) (channel : ℕ) (out : List ℕ) → close_of u channel out ≡ Written → None (close_table u channel out)
 unfolding close_of
-none_found u channel out e = ((none-exactly CloseRefused Written Written (λ r q. not_refused r (sym q)) (close_table u channel out)).0 e).1
+none_found u channel out e = ((none_exactly CloseRefused Written Written (λ r q. not_refused r (sym q)) (close_table u channel out)).0 e).1
 
 pub close_passes : ClosePasses
 unfolding close_of
 close_passes u channel out = (
   λ e. passing u channel out (none_found u channel out e),
-  λ h. none-gives CloseRefused Written (close_table u channel out) (passed u channel out h.0 h.1 h.2),
+  λ h. none_gives CloseRefused Written (close_table u channel out) (passed u channel out h.0 h.1 h.2),
 )
 
 pub close_around : CloseAround
@@ -193,15 +193,15 @@ closed_opens u channel m k w p out e hm hk hw hp =
     let field = field_in u w out in
     let lf = field_size u w out t.0 t.2 in
     rw (close_around u channel m k w p out e) (
-      around-opens u channel m k w p field lf t.0 t.1 hm hk (pointer_lt p (close_size u w) s.most hp) hw hp,
-      around-field u channel m k w p field lf,
+      around_opens u channel m k w p field lf t.0 t.1 hm hk (pointer_lt p (close_size u w) s.most hp) hw hp,
+      around_field u channel m k w p field lf,
     )
 
 pub closed_low : ClosedLow
 unfolding output_of frame_around
 closed_low u channel m k w p out =
     ap (λ (h : List ℕ). first_cause (close_table u channel out) (λ _. out) (with_check u (h ++ field_in u w out ++ word_octets w)))
-    (header-low u channel m k (flagged_by w) p)
+    (header_low u channel m k (flagged_by w) p)
 
 pub closed_refused : ClosedRefused
 closed_refused u channel m k w p out e hm hk hp =
@@ -209,7 +209,7 @@ closed_refused u channel m k w p out e hm hk hp =
     let lf = field_size u w out t.0 t.2 in
     let q : ℕ = p % 2048 in
     rw (closed_low u channel m k w p out, close_around u channel m k w q out e)
-    (around-refused u channel m k w q (field_in u w out) lf t.0 t.1 hm hk (omega arith) hp)
+    (around_refused u channel m k w q (field_in u w out) lf t.0 t.1 hm hk (omega arith) hp)
 
 -- the frame around what an opened frame gave
 own_flagged : (b : Bool) (w : ℕ) → flagged_by (pick b (Present w) Absent) ≡ b
@@ -230,7 +230,7 @@ around_again u f o s plain packets =
     let es : secondary_size h f ≡ 0 = unfold secondary_size in (rw plain) in
     let least : 1 ≤ D = rw es at s.least in
     let full = filled u 0 D b refl least in
-    let header = header-again u f s.version s.spacecraft plain packets (s.order packets) (s.segment packets) o (omega arith) in
+    let header = header_again u f s.version s.spacecraft plain packets (s.order packets) (s.segment packets) o (omega arith) in
     let word = word_again h f (6 + D) b refl o (omega (arith, s.octets)) in
     rw (es, own_flagged)
     (ap (with_check u) (ap₂ (λ (x y : List ℕ). x ++ take D (drop 6 f) ++ y) header word ∙ parts_again f D n)

@@ -30,27 +30,27 @@ flag_off v h e = ap bit (sym e) ∙ flag_again v h
 -- the header
 module _ (u : SetUp) (f : List ℕ) (ver : version_of f ≡ 0) (craft : (header_of f).spacecraft ≡ u.spacecraft) (plain : (header_of f).secondary ≡ false)
     (packets : (header_of f).synchronisation ≡ false) (ordered : (header_of f).order ≡ false) (segment : (header_of f).segment ≡ 3) where
-  value-again : (n : FrameItem)
+  value_again : (n : FrameItem)
       → header_value u (header_of f).channel (header_of f).master (header_of f).count (header_of f).flagged (header_of f).pointer n
       ≡ value_in frame_header f 0 n
   unfolding header_of width_among
-  value-again version = sym ver
-  value-again spacecraft = sym craft
-  value-again channel = refl
-  value-again control_word_flag = flag_again _ (value_lt frame_header f 0 control_word_flag)
-  value-again master_count = refl
-  value-again channel_count = refl
-  value-again secondary_header_flag = flag_off _ (value_lt frame_header f 0 secondary_header_flag) plain
-  value-again synchronisation_flag = flag_off _ (value_lt frame_header f 0 synchronisation_flag) packets
-  value-again packet_order_flag = flag_off _ (value_lt frame_header f 0 packet_order_flag) ordered
-  value-again segment_length_id = sym segment
-  value-again first_header_pointer = refl
+  value_again version = sym ver
+  value_again spacecraft = sym craft
+  value_again channel = refl
+  value_again control_word_flag = flag_again _ (value_lt frame_header f 0 control_word_flag)
+  value_again master_count = refl
+  value_again channel_count = refl
+  value_again secondary_header_flag = flag_off _ (value_lt frame_header f 0 secondary_header_flag) plain
+  value_again synchronisation_flag = flag_off _ (value_lt frame_header f 0 synchronisation_flag) packets
+  value_again packet_order_flag = flag_off _ (value_lt frame_header f 0 packet_order_flag) ordered
+  value_again segment_length_id = sym segment
+  value_again first_header_pointer = refl
 
-  pub header-again : Octets f → 6 ≤ length f
+  pub header_again : Octets f → 6 ≤ length f
       → header_octets u (header_of f).channel (header_of f).master (header_of f).count (header_of f).flagged (header_of f).pointer ≡ take 6 f
   unfolding header_octets
-  header-again o h =
-      ap (laid_out frame_header) (λ i n. value-again n i)
+  header_again o h =
+      ap (laid_out frame_header) (λ i n. value_again n i)
       ∙ writes_back frame_header header_fills header_apart f 0 o (omega (arith, header_six))
       ∙ ap (λ (k : ℕ). take k f) header_six
 

@@ -19,13 +19,13 @@ outside u f a = rw a
 
 -- rows 5 and 6, of a set-up that fits
 module _ (u : SetUp) (f : List ℕ) (a : fits_of u ≡ true) where
-  pub wrong-length : (length f ≡ u.length → ⊥) → Refused FrameLength ≡ open_of u f
+  pub wrong_length : (length f ≡ u.length → ⊥) → Refused FrameLength ≡ open_of u f
   unfolding open_of open_table frame_table first_cause row1 row5
-  wrong-length b = rw (a, ne_eqb (length f) u.length b)
+  wrong_length b = rw (a, ne_eqb (length f) u.length b)
 
-  pub failed-check : length f ≡ u.length → row6 u f ≡ true → Refused FrameCheck ≡ open_of u f
+  pub failed_check : length f ≡ u.length → row6 u f ≡ true → Refused FrameCheck ≡ open_of u f
   unfolding open_of open_table frame_table first_cause row1 row5
-  failed-check b c = rw (a, eq-eqb (length f) u.length b, c)
+  failed_check b c = rw (a, eq-eqb (length f) u.length b, c)
 
   pub checked : length f ≡ u.length → row6 u f ≡ false → open_from 3 u f ≡ open_of u f
   unfolding open_of open_from open_table frame_table first_cause row1 row5
@@ -37,42 +37,42 @@ unfolding open_from open_table frame_table first_cause
 wrong_version u f a = rw a
 
 module _ (u : SetUp) (f : List ℕ) (h : Header) (e : h ≡ header_of f) (a : row7 f ≡ false) where
-  pub wrong-spacecraft : (h.spacecraft ≡ u.spacecraft → ⊥) → Refused OtherSpacecraft ≡ open_from 3 u f
+  pub wrong_spacecraft : (h.spacecraft ≡ u.spacecraft → ⊥) → Refused OtherSpacecraft ≡ open_from 3 u f
   unfolding open_from open_table frame_table first_cause row8
-  wrong-spacecraft b = rw (a, ← e, ne_eqb h.spacecraft u.spacecraft b)
+  wrong_spacecraft b = rw (a, ← e, ne_eqb h.spacecraft u.spacecraft b)
 
-  pub wrong-secondary : h.spacecraft ≡ u.spacecraft → row9 h f ≡ true → Refused SecondaryHeader ≡ open_from 3 u f
+  pub wrong_secondary : h.spacecraft ≡ u.spacecraft → row9 h f ≡ true → Refused SecondaryHeader ≡ open_from 3 u f
   unfolding open_from open_table frame_table first_cause row8
-  wrong-secondary b c = rw (a, ← e, eq-eqb h.spacecraft u.spacecraft b, c)
+  wrong_secondary b c = rw (a, ← e, eq-eqb h.spacecraft u.spacecraft b, c)
 
-  pub right-header : h.spacecraft ≡ u.spacecraft → row9 h f ≡ false → open_from 6 u f ≡ open_from 3 u f
+  pub right_header : h.spacecraft ≡ u.spacecraft → row9 h f ≡ false → open_from 6 u f ≡ open_from 3 u f
   unfolding open_from open_table frame_table first_cause row8
-  right-header b c = rw (a, ← e, eq-eqb h.spacecraft u.spacecraft b, c)
+  right_header b c = rw (a, ← e, eq-eqb h.spacecraft u.spacecraft b, c)
 
 -- rows 10 to 12
 module _ (u : SetUp) (f : List ℕ) (h : Header) (s D : ℕ) (e : h ≡ header_of f) (es : s ≡ secondary_size h f) (eD : D ≡ data_size u s h.flagged) where
-  from-six : open_from 6 u f ≡ first_cause (row NoData (row10 D) ∷ row OrderOrSegment (row11 h) ∷ row PointerPlace (row12 h D) ∷ [])
+  from_six : open_from 6 u f ≡ first_cause (row NoData (row10 D) ∷ row OrderOrSegment (row11 h) ∷ row PointerPlace (row12 h D) ∷ [])
       Refused (Accepted (record { header = h; word = word_of h f (data_place s + D); place = data_place s; size = D }))
   unfolding open_from open_table frame_table frame_of
-  from-six = rw (eD, es, e)
+  from_six = rw (eD, es, e)
 
-  pub no-data : D < 1 → Refused NoData ≡ open_from 6 u f
+  pub no_data : D < 1 → Refused NoData ≡ open_from 6 u f
   unfolding first_cause row10
-  no-data a = rw (from-six, lt-ltb D 1 a)
+  no_data a = rw (from_six, lt-ltb D 1 a)
 
   module _ (a : 1 ≤ D) where
-    pub wrong-order : row11 h ≡ true → Refused OrderOrSegment ≡ open_from 6 u f
+    pub wrong_order : row11 h ≡ true → Refused OrderOrSegment ≡ open_from 6 u f
     unfolding first_cause row10
-    wrong-order b = rw (from-six, le-ltb D 1 a, b)
+    wrong_order b = rw (from_six, le-ltb D 1 a, b)
 
-    pub wrong-pointer : row11 h ≡ false → row12 h D ≡ true → Refused PointerPlace ≡ open_from 6 u f
+    pub wrong_pointer : row11 h ≡ false → row12 h D ≡ true → Refused PointerPlace ≡ open_from 6 u f
     unfolding first_cause row10
-    wrong-pointer b c = rw (from-six, le-ltb D 1 a, b, c)
+    wrong_pointer b c = rw (from_six, le-ltb D 1 a, b, c)
 
-    pub right-frame : row11 h ≡ false → row12 h D ≡ false → (w : ℕ) → w ≡ word_of h f (data_place s + D)
+    pub right_frame : row11 h ≡ false → row12 h D ≡ false → (w : ℕ) → w ≡ word_of h f (data_place s + D)
         → Accepted (record { header = h; word = w; place = data_place s; size = D }) ≡ open_from 6 u f
     unfolding first_cause row10
-    right-frame b c w ew = rw (from-six, le-ltb D 1 a, b, c, ew)
+    right_frame b c w ew = rw (from_six, le-ltb D 1 a, b, c, ew)
 
 -- a data field of at least one octet, with all that stands beside it, fills the frame
 pub filled : (u : SetUp) (s D : ℕ) (flagged : Bool) → D ≡ data_size u s flagged → 1 ≤ D

@@ -13,35 +13,35 @@ use Rattle.frame.specs.Theorems.{Points, Row12Exactly}
 
 -- row 6 is tested where error control is set up
 module _ (u : SetUp) (f : List ℕ) where
-  pub row6-tested : (s : ℕ) → u.error_control ≡ true → s ≡ syndrome_of f → not (eqb s 0) ≡ row6 u f
+  pub row6_tested : (s : ℕ) → u.error_control ≡ true → s ≡ syndrome_of f → not (eqb s 0) ≡ row6 u f
   unfolding row6
-  row6-tested s h e = rw (h, e)
+  row6_tested s h e = rw (h, e)
 
-  pub row6-passed : u.error_control ≡ false → false ≡ row6 u f
+  pub row6_passed : u.error_control ≡ false → false ≡ row6 u f
   unfolding row6
-  row6-passed h = rw h
+  row6_passed h = rw h
 
 -- row 9, the secondary header's size and the control word, each where its flag says that it is there and where not
 module _ (h : Header) (f : List ℕ) where
-  pub row9-tested : (v : ℕ) → h.secondary ≡ true → v ≡ secondary_version f → not (eqb v 0) ≡ row9 h f
+  pub row9_tested : (v : ℕ) → h.secondary ≡ true → v ≡ secondary_version f → not (eqb v 0) ≡ row9 h f
   unfolding row9
-  row9-tested v s e = rw (s, e)
+  row9_tested v s e = rw (s, e)
 
-  pub row9-passed : h.secondary ≡ false → false ≡ row9 h f
+  pub row9_passed : h.secondary ≡ false → false ≡ row9 h f
   unfolding row9
-  row9-passed s = rw s
+  row9_passed s = rw s
 
-  pub size-there : (n : ℕ) → h.secondary ≡ true → n ≡ value_in secondary_header f 6 length_less_one + 1 → n ≡ secondary_size h f
+  pub size_there : (n : ℕ) → h.secondary ≡ true → n ≡ value_in secondary_header f 6 length_less_one + 1 → n ≡ secondary_size h f
   unfolding secondary_size
-  size-there n s e = rw (s, e)
+  size_there n s e = rw (s, e)
 
   pub size_none : h.secondary ≡ false → 0 ≡ secondary_size h f
   unfolding secondary_size
   size_none s = rw s
 
-  pub word-there : (end n : ℕ) → h.flagged ≡ true → n ≡ number_at f end 4 → n ≡ word_of h f end
+  pub word_there : (end n : ℕ) → h.flagged ≡ true → n ≡ number_at f end 4 → n ≡ word_of h f end
   unfolding word_of
-  word-there end n s e = rw (s, e)
+  word_there end n s e = rw (s, e)
 
   pub word_none : (end : ℕ) → h.flagged ≡ false → 0 ≡ word_of h f end
   unfolding word_of
@@ -49,19 +49,19 @@ module _ (h : Header) (f : List ℕ) where
 
 module _ (h : Header) (D : ℕ) (s : h.synchronisation ≡ false) where
   -- a pointer below D passes
-  pub row12-below : h.pointer < D → false ≡ row12 h D
+  pub row12_below : h.pointer < D → false ≡ row12 h D
   unfolding row12
-  row12-below p = rw (s, lt-ltb h.pointer D p)
+  row12_below p = rw (s, lt-ltb h.pointer D p)
 
   -- so does that of idle data
-  pub row12-idle : D ≤ h.pointer → h.pointer ≡ idle_data → false ≡ row12 h D
+  pub row12_idle : D ≤ h.pointer → h.pointer ≡ idle_data → false ≡ row12 h D
   unfolding row12
-  row12-idle p e = rw (s, le-ltb h.pointer D p, eq-eqb h.pointer idle_data e)
+  row12_idle p e = rw (s, le-ltb h.pointer D p, eq-eqb h.pointer idle_data e)
 
   -- and of the others only the one that says that no packet starts
-  pub row12-other : D ≤ h.pointer → (h.pointer ≡ idle_data → ⊥) → not (eqb h.pointer none_starts) ≡ row12 h D
+  pub row12_other : D ≤ h.pointer → (h.pointer ≡ idle_data → ⊥) → not (eqb h.pointer none_starts) ≡ row12 h D
   unfolding row12
-  row12-other p e = rw (s, le-ltb h.pointer D p, ne_eqb h.pointer idle_data e)
+  row12_other p e = rw (s, le-ltb h.pointer D p, ne_eqb h.pointer idle_data e)
 
 -- a row of two tests that passes: where the first holds, the second does not
 second_passes : (a b : Bool) → a && b ≡ false → a ≡ true → b ≡ false

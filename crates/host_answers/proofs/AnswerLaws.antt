@@ -34,15 +34,15 @@ pub lays_accepted : (given : Answer) (after : Record) (words : List ℕ) (a : Re
 lays_accepted given after words a h e = rw e at h
 
 module _ (given : Answer) (after : Record) (words words' old l : List ℕ) (n : ℕ) where
-  pub tells-refused : (r : Refusal) (vs : List ℕ) → given ≡ Refused r → n ≡ number_of r → words' ≡ words → l ≡ laid_words old vs → vs ≡ n ∷ replicate 19 0
+  pub tells_refused : (r : Refusal) (vs : List ℕ) → given ≡ Refused r → n ≡ number_of r → words' ≡ words → l ≡ laid_words old vs → vs ≡ n ∷ replicate 19 0
       → (n ≡ read_number given) × ((words' ≡ saved_by given words after) × (l ≡ laid_words old (values_of given)))
   unfolding values_of
-  tells-refused r vs e q w k v = rw e (q, (w, laid_same old vs (number_of r ∷ replicate 19 0) l k (rw q at v)))
+  tells_refused r vs e q w k v = rw e (q, (w, laid_same old vs (number_of r ∷ replicate 19 0) l k (rw q at v)))
 
-  pub tells-accepted : (a : Report) → given ≡ Accepted a
+  pub tells_accepted : (a : Report) → given ≡ Accepted a
       → (n ≡ 0) × ((words' ≡ saved_by (Accepted a) words after) × (l ≡ laid_words old (values_of (Accepted a))))
       → (n ≡ read_number given) × ((words' ≡ saved_by given words after) × (l ≡ laid_words old (values_of given)))
-  tells-accepted a e h = rw e h
+  tells_accepted a e h = rw e h
 
 -- the five words of a writing
 pub written_told : (given : Written) (next : Place) (old vs l : List ℕ) (n : ℕ) → n ≡ answer_number given

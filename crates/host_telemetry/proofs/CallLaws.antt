@@ -27,13 +27,13 @@ module _ (u set : SetUp) (words store out f : List ℕ) (rec : Record) (given : 
   told : Read u (unpacked words) store out f given after store' out'
   told = rw (us, ur) at h
 
-  pub given-lays : Octets store → Octets f → Lays given after words
-  given-lays os of = rw (told.answers, told.record_left) (answer_lays u words store out f os of)
+  pub given_lays : Octets store → Octets f → Lays given after words
+  given_lays os of = rw (told.answers, told.record_left) (answer_lays u words store out f os of)
 
-  pub read-call : (answer words' answer' : List ℕ) (n : ℕ)
+  pub read_call : (answer words' answer' : List ℕ) (n : ℕ)
       → (n ≡ read_number given) × ((words' ≡ saved_by given words after) × (answer' ≡ laid_words answer (values_of given)))
       → ReadCall u words store out f answer n words' store' out' answer'
-  read-call answer words' answer' n d =
+  read_call answer words' answer' n d =
       let t = rw (told.answers, told.record_left) at d in
       record { number = t.0; record_left = t.1.0; store_left = told.store_left; output_left = told.output_left; answer_left = t.1.1 }
 
@@ -42,12 +42,12 @@ module _ (u set : SetUp) (channel : ℕ) (p : Place) (w control : ControlWord) (
   wrote : Wrote u channel p w run out given next out'
   wrote = rw (us, uw) at h
 
-  pub place-fits : p.offset < 2 ^ 32 → p.left_over < 2 ^ 32 → (next.offset < 2 ^ 32) × (next.left_over < 2 ^ 32)
-  place-fits a b = rw wrote.goes_on (next_fits u channel p w run out a b)
+  pub place_fits : p.offset < 2 ^ 32 → p.left_over < 2 ^ 32 → (next.offset < 2 ^ 32) × (next.left_over < 2 ^ 32)
+  place_fits a b = rw wrote.goes_on (next_fits u channel p w run out a b)
 
-  pub write-call : (answer answer' : List ℕ) (n : ℕ) → (n ≡ answer_number given) × (answer' ≡ laid_words answer (writeValues given next))
+  pub write_call : (answer answer' : List ℕ) (n : ℕ) → (n ≡ answer_number given) × (answer' ≡ laid_words answer (writeValues given next))
       → WriteCall u channel p w run out answer n out' answer'
-  write-call answer answer' n d =
+  write_call answer answer' n d =
       let t = rw (wrote.answers, wrote.goes_on) at d in
       record { number = t.0; output_left = wrote.output_left; answer_left = t.1 }
 

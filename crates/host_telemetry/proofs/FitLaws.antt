@@ -13,7 +13,7 @@ use Rattle.packet.proofs.Laws.{source_lawful}
 use Rattle.walk.proofs.SourceLaws.{source_roomy}
 use Rattle.frame.specs.Opening.{frame_of, none_starts}
 use Rattle.frame.proofs.Laws.{opened_sound}
-use Rattle.table.proofs.Laws.{none-gives}
+use Rattle.table.proofs.Laws.{none_gives}
 use Rattle.frame.specs.declared.closing.ControlWord.{ControlWord}
 use Rattle.frame.specs.declared.header.Header.{Header}
 use Rattle.frame.specs.declared.set_up.SetUp.{SetUp}
@@ -80,27 +80,27 @@ walked_single : (w : Walked) → Single (ended w)
 walked_single w = ended_single w.end w.whole w.rest
 
 module _ (limit : ℕ) (part field : List ℕ) (pointer : ℕ) where
-  hunted-single : Single (hunted source limit field pointer)
+  hunted_single : Single (hunted source limit field pointer)
   unfolding hunted
-  hunted-single =
+  hunted_single =
       either (eqb pointer none_starts) (only Hunting) (ended (walk_of source limit (drop pointer field))) (only_single Hunting)
       (walked_single (walk_of source limit (drop pointer field)))
 
-  resumed-single : (s : State) → Single (resumed source limit part field pointer s)
+  resumed_single : (s : State) → Single (resumed source limit part field pointer s)
   unfolding resumed gathered skipped
-  resumed-single Hunting = hunted-single
-  resumed-single (Gathering k) =
+  resumed_single Hunting = hunted_single
+  resumed_single (Gathering k) =
       let w = walk_of source limit (take k part ++ field) in
       let d = hunted source limit field pointer in
       either (agrees (length field) k (size_of (take k part ++ field)) pointer) (ended w) (disagreed (Gathering k) d) (walked_single w)
-      (disagreed_single (Gathering k) d hunted-single)
-  resumed-single (Skipping r) =
+      (disagreed_single (Gathering k) d hunted_single)
+  resumed_single (Skipping r) =
       let w = walk_of source limit (drop r field) in
       let d = hunted source limit field pointer in
       let s = Skipping (r - length field) in
       either (eqb pointer (called_at (length field) r)) (pick (leb r (length field)) (ended w) (only s)) (disagreed (Skipping r) d)
       (either (leb r (length field)) (ended w) (only s) (walked_single w) (only_single s))
-      (disagreed_single (Skipping r) d hunted-single)
+      (disagreed_single (Skipping r) d hunted_single)
 
 steps_single : (limit : ℕ) (part field : List ℕ) (h : Header) (c : Channel) → Single (steps_of source limit part field h c)
 unfolding steps_of
@@ -110,14 +110,14 @@ steps_single limit part field h c =
     let on = resumed source limit part field h.pointer c.state in
     let gap = not (eqb (gap_for c h) 0) in
     either (carries_none h) none (pick gap (broke c.state anew) on) (broke_single c.state (only Hunting) (only_single Hunting))
-    (either gap (broke c.state anew) on (broke_single c.state anew (hunted-single limit part field h.pointer))
-    (resumed-single limit part field h.pointer c.state))
+    (either gap (broke c.state anew) on (broke_single c.state anew (hunted_single limit part field h.pointer))
+    (resumed_single limit part field h.pointer c.state))
 
 module _ (u : SetUp) (rec : Record) (store out f : List ℕ) (a : Report) (e : answer_of u rec store out f ≡ Accepted a) where
   -- what is told of an accepted frame fits
-  report-fits : ReportFits a
+  report_fits : ReportFits a
   unfolding report_of
-  report-fits =
+  report_fits =
       let x = frame_of u f in
       let n = found_none source most u rec store out f a e in
       let r = ready source most u rec store out f x (refl, n) in
@@ -149,7 +149,7 @@ answer_lays u words store out f os of = go (answer_of u (unpacked words) store o
     go (Refused r) e = tt
     go (Accepted a) e =
         let k = accepted_keeps source most source_roomy u (unpacked words) store out f a os of (eight_channels words) e in
-        (report-fits u (unpacked words) store out f a e, numbers_fit (store_of u (unpacked words) store out f) (record_of u (unpacked words) store out f) k.eight k.follows, whole_words words store (followed u (unpacked words) store out f a e))
+        (report_fits u (unpacked words) store out f a e, numbers_fit (store_of u (unpacked words) store out f) (record_of u (unpacked words) store out f) k.eight k.follows, whole_words words store (followed u (unpacked words) store out f a e))
 
 -- where the next writing goes on fits words if this one's place did
 abbrev PlaceFits : Place → Type 0
@@ -166,4 +166,4 @@ next_fits u channel p w run out h k = go (writeAnswer u channel p run out) refl
         let none = (written_exactly u channel p run out).0 e in
         let g = goes_on u channel p w run out e in
         let n = (passing u channel p run out none).0.run_fits in
-        rw (none-gives (λ _. p) (next_place u p w run) (write_table u channel p run out) none) (omega (arith, g.inside, n), omega (arith, g.few_left))
+        rw (none_gives (λ _. p) (next_place u p w run) (write_table u channel p run out) none) (omega (arith, g.inside, n), omega (arith, g.few_left))

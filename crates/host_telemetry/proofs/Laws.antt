@@ -22,9 +22,9 @@ use Rattle.channel.specs.State.{fresh_channel}
 use Rattle.channel.specs.Store.{output_fits, store_fits}
 use Rattle.channel.specs.declared.state.Channel.{Channel}
 use Rattle.channel.specs.declared.state.Record.{Record}
-use Rattle.reading.proofs.AfterLaws.{channels-kept}
+use Rattle.reading.proofs.AfterLaws.{channels_kept}
 use Rattle.reading.proofs.Laws.{accepted_keeps, others_apart, refused_untouched}
-use Rattle.reading.proofs.ReadLaws.{at-record, found_none, leaves, opened, ready, refuses}
+use Rattle.reading.proofs.ReadLaws.{at_record, found_none, leaves, opened, ready, refuses}
 use Rattle.reading.specs.Answers.{number_of, values_of as readValues}
 use Rattle.reading.specs.Reading.{answer_of as readAnswer, done_by, record_after, record_of}
 use Rattle.reading.specs.declared.Answer.{Answer as ReadAnswer}
@@ -44,7 +44,7 @@ use Rattle.host_words.specs.Words.{broken_channel, channel_at, each_channel, pac
 use Rattle.host_words.proofs.NumberLaws.{eight_channels, whole_words}
 use Rattle.host_telemetry.proofs.FitLaws.{followed}
 use Rattle.host_words.proofs.BusyLaws.{packed_busy}
-use Rattle.host_words.proofs.OwnLaws.{back, drop_packed, each_at, unpacked_is, words-at}
+use Rattle.host_words.proofs.OwnLaws.{back, drop_packed, each_at, unpacked_is, words_at}
 use Rattle.host_words.proofs.Laws.{odd_breaks, at_small}
 
 pub odd_refused : OddRefused
@@ -55,7 +55,7 @@ odd_refused u words store out f a b c o = go (record_follows source most store (
     go true e = absurd (odd_breaks words store e o)
     go false e =
         sym (refuses source most u (unpacked words) store out f BrokenRecord (record { answer = Refused BrokenRecord; after = unpacked words })
-        (at-record source most u (unpacked words) store out f (not-false (fits_of u) a) (not-false (store_fits most (length store)) b)
+        (at_record source most u (unpacked words) store out f (not-false (fits_of u) a) (not-false (store_fits most (length store)) b)
         (not-false (output_fits most (length out)) c) e) refl).answers
 
 -- every count in a record that words are, and in one that a reading leaves of it, is an octet
@@ -79,18 +79,18 @@ module _ (u : SetUp) (rec : Record) (store out f : List ℕ) (a : Report) (e : r
   left_as : record_after (frame_of u f) rec (done_by source most (frame_of u f) rec store f) ≡ record_of u rec store out f
   left_as = (leaves source most u rec store out f (found_none source most u rec store out f a e)).record_left
 
-  left-eight : length rec.channels ≡ 8 → length (record_of u rec store out f).channels ≡ 8
-  left-eight n =
+  left_eight : length rec.channels ≡ 8 → length (record_of u rec store out f).channels ≡ 8
+  left_eight n =
       rw (← left_as)
-      (channels-kept source source_roomy.laws most source_roomy.wide rec (frame_of u f) f store out (ready source most u rec store out f (frame_of u f) (refl, found_none source most u rec store out f a e)) ∙ n)
+      (channels_kept source source_roomy.laws most source_roomy.wide rec (frame_of u f) f store out (ready source most u rec store out f (frame_of u f) (refl, found_none source most u rec store out f a e)) ∙ n)
 
-  frame-count : (frame_of u f).header.count.0 < 256
-  frame-count = (opened_sound u f (frame_of u f) (opened source most u rec store out f (found_none source most u rec store out f a e))).count_bits
+  frame_count : (frame_of u f).header.count.0 < 256
+  frame_count = (opened_sound u f (frame_of u f) (opened source most u rec store out f (found_none source most u rec store out f a e))).count_bits
 
-  left-small : length rec.channels ≡ 8 → ((v : ℕ) → v < 8 → (get_or rec.channels v fresh_channel).last.0 < 256)
+  left_small : length rec.channels ≡ 8 → ((v : ℕ) → v < 8 → (get_or rec.channels v fresh_channel).last.0 < 256)
       → (v : ℕ) → v < 8 → (get_or (record_of u rec store out f).channels v fresh_channel).last.0 < 256
   unfolding record_after
-  left-small n h v l = rw (← left_as) (set_small rec.channels (frame_of u f).header.channel v _ frame-count (omega arith) (h v l))
+  left_small n h v l = rw (← left_as) (set_small rec.channels (frame_of u f).header.channel v _ frame_count (omega arith) (h v l))
 
 pub saved_unpacks : SavedUnpacks
 saved_unpacks u words store out f answer r words' store' out' answer' c = go (readAnswer u (unpacked words) store out f) refl
@@ -101,8 +101,8 @@ saved_unpacks u words store out f answer r words' store' out' answer' c = go (re
     go (Accepted a) e =
         let n = eight_channels words in
         ap unpacked (rw e at c.record_left)
-        ∙ back (record_of u (unpacked words) store out f) (left-eight u (unpacked words) store out f a e n)
-        (left-small u (unpacked words) store out f a e n (counts_small words))
+        ∙ back (record_of u (unpacked words) store out f) (left_eight u (unpacked words) store out f a e n)
+        (left_small u (unpacked words) store out f a e n (counts_small words))
 
 -- a refusal's number is not 0
 refused_not : (r : Refusal) → number_of r ≡ 0 → ⊥
@@ -125,13 +125,13 @@ others_keep u words store out f answer r words' store' out' answer' a w c e h n 
     let rec = unpacked words in
     let after = record_of u rec store out f in
     let follows = followed u rec store out f a e in
-    let k : w < length after.channels = omega (arith, left-eight u rec store out f a e (eight_channels words)) in
+    let k : w < length after.channels = omega (arith, left_eight u rec store out f a e (eight_channels words)) in
     ap (λ (l : List ℕ). take 4 (drop (4 * w) l)) (rw e at c.record_left)
     ∙ ap (take 4) (drop_packed after.channels w k)
     ∙ ap packed_channel ((others_apart source most source_roomy u rec store out f a w e h n).channel_kept
     ∙ ap (λ (l : List Channel). get_or l w fresh_channel) (unpacked_is words (whole_words words store follows))
     ∙ each_at (channel_at words) w h)
-    ∙ words-at words store follows w h
+    ∙ words_at words store follows w h
 
 pub read_refused : ReadRefused
 read_refused u words store out f answer r words' store' out' answer' c n = go (readAnswer u (unpacked words) store out f) refl

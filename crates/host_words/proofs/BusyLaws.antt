@@ -44,18 +44,18 @@ busy_seen state number (inl e) = rw e
 busy_seen state number (inr (e, n)) = rw e (lt-ltb 0 number (omega arith))
 
 module _ (words : List ℕ) (v : ℕ) where
-  at-busy : busy_state (state_at words v) ≡ true → BusyAt words v
+  at_busy : busy_state (state_at words v) ≡ true → BusyAt words v
   unfolding state_at busy_state
-  at-busy = go (ltb (4 * v + 3) (length words)) refl
+  at_busy = go (ltb (4 * v + 3) (length words)) refl
     where
       go : (b : Bool) → ltb (4 * v + 3) (length words) ≡ b
           → busy_state (pick b (seen_state (get_or words (4 * v + 2) 0) (get_or words (4 * v + 3) 0)) Hunting) ≡ true → BusyAt words v
       go true q e = (ltb-true (4 * v + 3) (length words) q, seen_busy (get_or words (4 * v + 2) 0) (get_or words (4 * v + 3) 0) e)
       go false q e = absurd (false≢true e)
 
-  busy-at : BusyAt words v → busy_state (state_at words v) ≡ true
+  busy_at : BusyAt words v → busy_state (state_at words v) ≡ true
   unfolding state_at
-  busy-at h = rw (lt-ltb (4 * v + 3) (length words) h.0) (busy_seen (get_or words (4 * v + 2) 0) (get_or words (4 * v + 3) 0) h.1)
+  busy_at h = rw (lt-ltb (4 * v + 3) (length words) h.0) (busy_seen (get_or words (4 * v + 2) 0) (get_or words (4 * v + 3) 0) h.1)
 
 one_bit : (b : Bool) → ◌≡◌ {A = ℕ} (pick b 1 0) 1 → b ≡ true
 one_bit true e = refl
@@ -67,7 +67,7 @@ busy_exactly words = (
   λ v h.
       let bit : mask_of (seen words) / 2 ^ v % 2 ≡ pick (busy_state (state_at words v)) 1 0 =
       mask_bit (seen words) v h ∙ ap (λ (c : Channel). pick (busy_state c.state) 1 0) (each_at (seen_at words) v h) in
-      (λ e. at-busy words v (one_bit (busy_state (state_at words v)) (sym bit ∙ e)), λ b. bit ∙ ap (λ (t : Bool). pick t 1 0) (busy-at words v b)),
+      (λ e. at_busy words v (one_bit (busy_state (state_at words v)) (sym bit ∙ e)), λ b. bit ∙ ap (λ (t : Bool). pick t 1 0) (busy_at words v b)),
   mask_no_more (seen words),
 )
 

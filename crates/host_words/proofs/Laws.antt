@@ -22,7 +22,7 @@ use Rattle.host_words.specs.Theorems.{Odd, OddChannel, UnpacksPacked, PacksWords
 use Rattle.host_words.specs.Words.{broken_channel, channel_at, number_word, packed_all, packed_channel, state_word, unpacked, unpacked_channel, unpacked_state}
 pub use Rattle.host_words.proofs.BusyLaws.{busy_exactly}
 use Rattle.host_words.proofs.NumberLaws.{whole_words}
-use Rattle.host_words.proofs.OwnLaws.{back, channel-follows, channel_own, own}
+use Rattle.host_words.proofs.OwnLaws.{back, channel_follows_lem, channel_own, own}
 use Rattle.host_words.proofs.WordLaws.{length_packed}
 
 pub unpacks_packed : UnpacksPacked
@@ -98,4 +98,4 @@ odd_breaks words store e (inl n) = n (whole_words words store e)
 odd_breaks words store e (inr (v, h, o)) =
     odd_not (channel_at words v) (get_or words (4 * v) 0) (get_or words (4 * v + 1) 0) (get_or words (4 * v + 2) 0) (get_or words (4 * v + 3) 0) (at_small words v)
     (channel_own most (part_of most v store) (get_or words (4 * v) 0) (get_or words (4 * v + 1) 0) (get_or words (4 * v + 2) 0) (get_or words (4 * v + 3) 0)
-    (channel-follows words store e v h)) o
+    (channel_follows_lem words store e v h)) o

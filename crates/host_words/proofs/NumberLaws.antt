@@ -11,7 +11,7 @@ use lib.ListN.{length, get_or, replicate}
 use Rattle.octets.specs.Pick.{pick}
 use Rattle.packet.specs.Size.{most, source}
 use Rattle.channel.proofs.Laws.{each_follows}
-use Rattle.channel.proofs.RuleLaws.{both, gathers-told}
+use Rattle.channel.proofs.RuleLaws.{both, gathers_told}
 use Rattle.channel.specs.Rules.{all_follow, channel_follows, hunts, record_follows, state_follows}
 use Rattle.channel.specs.State.{fresh_channel}
 use Rattle.channel.specs.Store.{part_of}
@@ -25,7 +25,7 @@ use Rattle.host_words.specs.Words.{NumbersFit, broken_channel, channel_at, each_
 state_small : (limit : ℕ) (part : List ℕ) (s : State) → limit ≤ 4096 → state_follows source limit part s ≡ true → number_word s ≤ 65536
 unfolding state_follows
 state_small limit part Hunting h e = omega arith
-state_small limit part (Gathering k) h e = omega (arith, (gathers-told source limit part k e).0)
+state_small limit part (Gathering k) h e = omega (arith, (gathers_told source limit part k e).0)
 state_small limit part (Skipping r) h e = leb-true r 65536 (both (leb 1 r) (leb r 65536) e).1
 
 hunts_small : (s : State) → hunts s ≡ true → number_word s ≤ 65536

@@ -165,19 +165,19 @@ four (a ∷ b ∷ c ∷ []) h = absurd (omega arith)
 four (a ∷ b ∷ c ∷ d ∷ l) h = refl
 
 module _ (words store : List ℕ) (e : record_follows source most store (unpacked words) ≡ true) where
-  pub channel-follows : (v : ℕ) → v < 8 → channel_follows source most (part_of most v store) (channel_at words v) ≡ true
-  channel-follows v h =
+  pub channel_follows_lem : (v : ℕ) → v < 8 → channel_follows source most (part_of most v store) (channel_at words v) ≡ true
+  channel_follows_lem v h =
       let f = (each_follows source most store (unpacked words)).0 e v (omega (arith, eight_channels words)) in
       rw (unpacked_is words (whole_words words store e), each_at (channel_at words) v h) at f
 
-  pub words-at : (v : ℕ) → v < 8 → packed_channel (channel_at words v) ≡ take 4 (drop (4 * v) words)
-  words-at v h =
+  pub words_at : (v : ℕ) → v < 8 → packed_channel (channel_at words v) ≡ take 4 (drop (4 * v) words)
+  words_at v h =
       let d = drop (4 * v) words in
       let n : 4 ≤ length d = omega (arith, length-drop (4 * v) words, whole_words words store e) in
-      let f = rw (channel_words words v) at (channel-follows v h) in
+      let f = rw (channel_words words v) at (channel_follows_lem v h) in
       rw (channel_words words v)
       (channel_own most (part_of most v store) (get_or d 0 0) (get_or d 1 0) (get_or d 2 0) (get_or d 3 0) f ∙ four d n)
 
   pub own : packed (unpacked words) ≡ words
   unfolding from_channel
-  own = ap packed_all (unpacked_is words (whole_words words store e)) ∙ from_own words (channel_at words) 8 0 (whole_words words store e) words-at
+  own = ap packed_all (unpacked_is words (whole_words words store e)) ∙ from_own words (channel_at words) 8 0 (whole_words words store e) words_at

@@ -16,8 +16,8 @@ use Rattle.channel.specs.declared.state.State.{State}
 use Rattle.channel.specs.declared.state.State.TheVariants.{Hunting, Gathering, Skipping}
 use Rattle.walk.specs.declared.walking.End.{End}
 use Rattle.walk.specs.Walk.{Done, ended_by, ended, Walked, cut_of, walk_of}
-use Rattle.walk.proofs.DoneLaws.{ended-foreign, ended-oversize}
-use Rattle.walk.proofs.WalkLaws.{Stands, seen_whole, walk_stop, walk_whole, sees-end, sees-few, sees-packet, sees-cut}
+use Rattle.walk.proofs.DoneLaws.{ended_foreign, ended_oversize}
+use Rattle.walk.proofs.WalkLaws.{Stands, seen_whole, walk_stop, walk_whole, sees_end, sees_few, sees_packet, sees_cut}
 use Rattle.demands.proofs.Aligned.{AllFit}
 
 -- what stands whole at the front of d, cut out, is a whole packet
@@ -61,36 +61,36 @@ pub data AtFront (F : Family) (limit : ℕ) (d : List ℕ) (x : Done) : Type 0 w
       → x.held ≡ (ended (walk_of F limit (drop n d))).held → x.state ≡ (ended (walk_of F limit (drop n d))).state → AtFront F limit d x
 
 module _ (F : Family) (laws : Lawful F) (limit : ℕ) (d : List ℕ) where
-  holds-all : (x : Done) → x ≡ ended_by (End.Cut (length d)) [] d → Open F d → AtFront F limit d x
+  holds_all : (x : Done) → x ≡ ended_by (End.Cut (length d)) [] d → Open F d → AtFront F limit d x
   unfolding ended_by
-  holds-all x e o = rw e (holds refl refl (λ k q. cc) o)
+  holds_all x e o = rw e (holds refl refl (λ k q. cc) o)
 
-  front-total : (n : ℕ) → F.size d ≡ Total n → Dec (limit < n) → Dec (length d < n) → AtFront F limit d (ended (walk_of F limit d))
+  front_total : (n : ℕ) → F.size d ≡ Total n → Dec (limit < n) → Dec (length d < n) → AtFront F limit d (ended (walk_of F limit d))
   unfolding ended_by cut_of
-  front-total n e (yes l) _ = rw (ended-oversize F laws limit d n (length d) e l refl) (stops refl refl (λ k q. not_gathering k q (inr (_, refl))))
-  front-total n e (no l) (yes h) =
-      holds-all (ended (walk_of F limit d)) (ap ended (walk_stop F laws limit d _ (sym (sees-cut F limit d n e (omega arith) h)))) (inr (n, (e, h)))
-  front-total n e (no l) (no h) =
-      let s = sym (sees-packet F limit d n e (omega arith) (omega arith)) in
+  front_total n e (yes l) _ = rw (ended_oversize F laws limit d n (length d) e l refl) (stops refl refl (λ k q. not_gathering k q (inr (_, refl))))
+  front_total n e (no l) (yes h) =
+      holds_all (ended (walk_of F limit d)) (ap ended (walk_stop F laws limit d _ (sym (sees_cut F limit d n e (omega arith) h)))) (inr (n, (e, h)))
+  front_total n e (no l) (no h) =
+      let s = sym (sees_packet F limit d n e (omega arith) (omega arith)) in
       let w = walk_of F limit (drop n d) in
       let c = clean w.end (take n d) w.whole w.rest in
       let y = walk_whole F laws limit d n s in
       packet n (seen_whole F laws limit d n s) (ap (λ (v : Walked). (ended v).whole) y ∙ c.more) (ap (λ (v : Walked). (ended v).held) y ∙ c.held_same)
       (ap (λ (v : Walked). (ended v).state) y ∙ c.state_same)
 
-  front-waits : F.size d ≡ Wait → Dec (length d ≡ 0) → AtFront F limit d (ended (walk_of F limit d))
+  front_waits : F.size d ≡ Wait → Dec (length d ≡ 0) → AtFront F limit d (ended (walk_of F limit d))
   unfolding ended_by cut_of
-  front-waits e (yes z) =
-      rw (ap ended (walk_stop F laws limit d _ (sym (sees-end F limit d e z)))) (stops refl refl (λ k q. cc))
-  front-waits e (no z) = holds-all (ended (walk_of F limit d)) (ap ended (walk_stop F laws limit d _ (sym (sees-few F limit d e z)))) (inl e)
+  front_waits e (yes z) =
+      rw (ap ended (walk_stop F laws limit d _ (sym (sees_end F limit d e z)))) (stops refl refl (λ k q. cc))
+  front_waits e (no z) = holds_all (ended (walk_of F limit d)) (ap ended (walk_stop F laws limit d _ (sym (sees_few F limit d e z)))) (inl e)
 
-  pub walk-front : AtFront F limit d (ended (walk_of F limit d))
-  walk-front = go (F.size d) refl
+  pub walk_front : AtFront F limit d (ended (walk_of F limit d))
+  walk_front = go (F.size d) refl
     where
       go : (s : Size) → F.size d ≡ s → AtFront F limit d (ended (walk_of F limit d))
-      go Wait e = front-waits e (ℕ_discrete (length d) 0)
-      go Foreign e = rw (ended-foreign F laws limit d e) (stops refl refl (λ k q. not_gathering k q (inl refl)))
-      go (Total n) e = front-total n e (dec_lt limit n) (dec_lt (length d) n)
+      go Wait e = front_waits e (ℕ_discrete (length d) 0)
+      go Foreign e = rw (ended_foreign F laws limit d e) (stops refl refl (λ k q. not_gathering k q (inl refl)))
+      go (Total n) e = front_total n e (dec_lt limit n) (dec_lt (length d) n)
 
 -- packets that stand end to end at the front of d, and what is held behind them
 pub record InRow (F : Family) (limit : ℕ) (d : List ℕ) (x : Done) : Type 0 where
@@ -117,17 +117,17 @@ module _ (F : Family) (laws : Lawful F) (limit : ℕ) where
         kept = rw (i, j) h.kept;
       }
 
-  in-row-by : (d : List ℕ) → AtFront F limit d (ended (walk_of F limit d))
+  in_row_by : (d : List ℕ) → AtFront F limit d (ended (walk_of F limit d))
       → ((n : ℕ) → Stands F limit d n → InRow F limit (drop n d) (ended (walk_of F limit (drop n d)))) → InRow F limit d (ended (walk_of F limit d))
-  in-row-by d (stops w i k) on = record { all_whole = rw w tt; all_fit = rw w tt; behind = d; laid_end_to_end = rw w refl; held_is = inl i; kept = k }
-  in-row-by d (holds w i k o) on = record { all_whole = rw w tt; all_fit = rw w tt; behind = d; laid_end_to_end = rw w refl; held_is = inr i; kept = k }
-  in-row-by d (packet n t w i j) on = one_more d n (ended (walk_of F limit d)) (ended (walk_of F limit (drop n d))) t w i j (on n t)
+  in_row_by d (stops w i k) on = record { all_whole = rw w tt; all_fit = rw w tt; behind = d; laid_end_to_end = rw w refl; held_is = inl i; kept = k }
+  in_row_by d (holds w i k o) on = record { all_whole = rw w tt; all_fit = rw w tt; behind = d; laid_end_to_end = rw w refl; held_is = inr i; kept = k }
+  in_row_by d (packet n t w i j) on = one_more d n (ended (walk_of F limit d)) (ended (walk_of F limit (drop n d))) t w i j (on n t)
 
-  in-row-within : (f : ℕ) (d : List ℕ) → length d < f → InRow F limit d (ended (walk_of F limit d))
-  in-row-within zero d l = absurd (omega arith)
-  in-row-within (suc f) d l =
-      in-row-by d (walk-front F laws limit d) (λ n t. in-row-within f (drop n d) (omega (arith, t.some, t.there, length-drop n d)))
+  in_row_within : (f : ℕ) (d : List ℕ) → length d < f → InRow F limit d (ended (walk_of F limit d))
+  in_row_within zero d l = absurd (omega arith)
+  in_row_within (suc f) d l =
+      in_row_by d (walk_front F laws limit d) (λ n t. in_row_within f (drop n d) (omega (arith, t.some, t.there, length-drop n d)))
 
   -- those of every walk do
-  pub walk-in-row : (d : List ℕ) → InRow F limit d (ended (walk_of F limit d))
-  walk-in-row d = in-row-within (suc (length d)) d (omega arith)
+  pub walk_in_row : (d : List ℕ) → InRow F limit d (ended (walk_of F limit d))
+  walk_in_row d = in_row_within (suc (length d)) d (omega arith)

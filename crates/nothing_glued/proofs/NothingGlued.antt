@@ -30,7 +30,7 @@ use Rattle.channel.specs.Store.{part_of}
 use Rattle.channel.specs.declared.state.Channel.{Channel}
 use Rattle.channel.specs.declared.state.State.{State}
 use Rattle.channel.specs.declared.state.State.TheVariants.{Hunting, Gathering, Skipping}
-use Rattle.channel.proofs.RuleLaws.{gathers-told}
+use Rattle.channel.proofs.RuleLaws.{gathers_told}
 use Rattle.walk.specs.Steps.{hunted, broke, disagreed, called_at, agrees_by, agrees, gathered, skipped, resumed, gap_for, carries_none, steps_of, course_of}
 use Rattle.walk.specs.Walk.{Done, only, ended, walk_of, no_tally}
 use Rattle.walk.proofs.EndLaws.{held_total}
@@ -39,7 +39,7 @@ use Rattle.walk.proofs.WalkLaws.{Stands}
 use Rattle.reading.specs.Reading.{kind_of, field_of, channel_of, done_by, report_of, record_after, store_after, output_after}
 use Rattle.reading.specs.declared.Kind.TheVariants.{Packets, Idle, Private}
 use Rattle.reading.specs.declared.Report.{Report}
-use Rattle.reading.proofs.AcceptLaws.{own_follows, field-length, part-whole}
+use Rattle.reading.proofs.AcceptLaws.{own_follows, field_length, part_whole}
 use Rattle.reading.proofs.ReadLaws.{found_none, leaves, opened, ready}
 use Rattle.demands.specs.History.{wanted}
 use Rattle.nothing_glued.specs.NothingGlued.{AllProper, CarriedOn, PointsBehind, Continued, Held, Origin, NothingGluedGeneral, NothingGlued}
@@ -47,7 +47,7 @@ use Rattle.nothing_glued.specs.NothingGlued.Finished.{all_inside, one_continued}
 use Rattle.nothing_glued.specs.NothingGlued.Held.{nothing_held, begun, one_goes_on}
 use Rattle.demands.proofs.Aligned.{AllFit}
 use Rattle.demands.proofs.Due.{handed_wanted, tally_wanted, tally_unwanted}
-use Rattle.nothing_glued.proofs.Ended.{Kept, Open, clean, not_gathering, AtFront, walk-front, InRow, walk-in-row}
+use Rattle.nothing_glued.proofs.Ended.{Kept, Open, clean, not_gathering, AtFront, walk_front, InRow, walk_in_row}
 use Rattle.nothing_glued.proofs.Ended.AtFront.{stops, holds, packet}
 use Rattle.demands.proofs.Frame.{called_below, called_beyond}
 use Rattle.demands.proofs.Hears.{unheard_hunts}
@@ -134,9 +134,9 @@ module _ (F : Family) (laws : Lawful F) (limit : ℕ) (c : Channel) (part field 
   Good d = AllFit limit d.whole × (Origin F c part field a d.whole d.held × Kept d.state d.held)
 
   -- nothing was finished
-  none-good : (x : Done) → x.whole ≡ [] → Held c part field a x.whole (drop a.header.pointer field) x.held → Kept x.state x.held
+  none_good : (x : Done) → x.whole ≡ [] → Held c part field a x.whole (drop a.header.pointer field) x.held → Kept x.state x.held
       → ((a.kind ≡ Packets → ⊥) → x.held ≡ []) → Good x
-  none-good x w h k o = (
+  none_good x w h k o = (
     rw w tt,
     (
       record {
@@ -152,14 +152,14 @@ module _ (F : Family) (laws : Lawful F) (limit : ℕ) (c : Channel) (part field 
     ),
   )
 
-  hunts-good : Good (only Hunting)
-  hunts-good = none-good (only Hunting) refl (nothing_held refl) (λ k q. not_gathering k q (inl refl)) (λ _. refl)
+  hunts_good : Good (only Hunting)
+  hunts_good = none_good (only Hunting) refl (nothing_held refl) (λ k q. not_gathering k q (inl refl)) (λ _. refl)
 
   module _ (packets : a.kind ≡ Packets) where
     -- a walk from the pointer on
-    inside-good : (d : List ℕ) → drop a.header.pointer field ≡ d → Good (ended (walk_of F limit d))
-    inside-good d e =
-        let w = walk-in-row F laws limit d in (
+    inside_good : (d : List ℕ) → drop a.header.pointer field ≡ d → Good (ended (walk_of F limit d))
+    inside_good d e =
+        let w = walk_in_row F laws limit d in (
           w.all_fit,
           (
             record {
@@ -180,8 +180,8 @@ module _ (F : Family) (laws : Lawful F) (limit : ℕ) (c : Channel) (part field 
       abbrev run : List ℕ
       run = take k part ++ field
 
-      length-held : length (take k part) ≡ k
-      length-held = length-take-le k part (gathers-told F limit part k follows).1
+      length_held : length (take k part) ≡ k
+      length_held = length-take-le k part (gathers_told F limit part k follows).1
 
       -- one of n octets that ends in the field
       module _ (n : ℕ) (st : Stands F limit run n) (points : a.header.pointer ≡ called_at (length field) (n - k)) where
@@ -189,10 +189,10 @@ module _ (F : Family) (laws : Lawful F) (limit : ℕ) (c : Channel) (part field 
         above = (held_total F laws limit k n part field whole_part follows st.told).0
 
         there : n ≤ k + length field
-        there = omega (arith, st.there, length-append (take k part) field, length-held)
+        there = omega (arith, st.there, length-append (take k part) field, length_held)
 
         seam : length (take k part) + (n - k) ≡ n
-        seam = omega (arith, length-held, above)
+        seam = omega (arith, length_held, above)
 
         long : length (take n run) ≡ n
         long = length-take-le n run st.there
@@ -214,9 +214,9 @@ module _ (F : Family) (laws : Lawful F) (limit : ℕ) (c : Channel) (part field 
               points = rw long (called_behind (length field) (n - k) a.header.pointer (omega (arith, there)) points);
             }
 
-        continued-good : (x y : Done) → x.whole ≡ take n run ∷ y.whole → x.held ≡ y.held → InRow F limit run x → InRow F limit (drop n run) y
+        continued_good : (x y : Done) → x.whole ≡ take n run ∷ y.whole → x.held ≡ y.held → InRow F limit run x → InRow F limit (drop n run) y
             → Good x
-        continued-good x y e i w v = (
+        continued_good x y e i w v = (
           w.all_fit,
           (
             record {
@@ -233,52 +233,52 @@ module _ (F : Family) (laws : Lawful F) (limit : ℕ) (c : Channel) (part field 
         )
 
       -- one that does not
-      open-points : (s : Size) → F.size run ≡ s → agrees (length field) k s a.header.pointer ≡ true → Open F run
+      open_points : (s : Size) → F.size run ≡ s → agrees (length field) k s a.header.pointer ≡ true → Open F run
           → a.header.pointer ≡ none_starts
-      open-points s e g (inl w) = agreed_wait (length field) k a.header.pointer way.some_held (rw (sym e ∙ w) at g)
-      open-points s e g (inr (n, (t, l))) =
+      open_points s e g (inl w) = agreed_wait (length field) k a.header.pointer way.some_held (rw (sym e ∙ w) at g)
+      open_points s e g (inr (n, (t, l))) =
           agreed (length field) k n a.header.pointer way.some_held (rw (sym e ∙ t) at g)
-          ∙ called_beyond (length field) (n - k) (omega (arith, l, length-append (take k part) field, length-held))
+          ∙ called_beyond (length field) (n - k) (omega (arith, l, length-append (take k part) field, length_held))
 
-      gathered-good : (s : Size) → F.size run ≡ s → agrees (length field) k s a.header.pointer ≡ true → Good (ended (walk_of F limit run))
-      gathered-good s e g = go (walk-front F laws limit run)
+      gathered_good : (s : Size) → F.size run ≡ s → agrees (length field) k s a.header.pointer ≡ true → Good (ended (walk_of F limit run))
+      gathered_good s e g = go (walk_front F laws limit run)
         where
           go : AtFront F limit run (ended (walk_of F limit run)) → Good (ended (walk_of F limit run))
-          go (stops w i q) = none-good (ended (walk_of F limit run)) w (nothing_held i) q (λ z. absurd (z packets))
+          go (stops w i q) = none_good (ended (walk_of F limit run)) w (nothing_held i) q (λ z. absurd (z packets))
           go (holds w i q o) =
-              none-good (ended (walk_of F limit run)) w
-              (one_goes_on (record { k = k; under_way_lem = way; octets = i; points = open-points s e g o }) w) q (λ z. absurd (z packets))
+              none_good (ended (walk_of F limit run)) w
+              (one_goes_on (record { k = k; under_way_lem = way; octets = i; points = open_points s e g o }) w) q (λ z. absurd (z packets))
           go (packet n t w i j) =
-              continued-good n t (agreed (length field) k n a.header.pointer way.some_held (rw (sym e ∙ t.told) at g))
-              (ended (walk_of F limit run)) (ended (walk_of F limit (drop n run))) w i (walk-in-row F laws limit run)
-              (walk-in-row F laws limit (drop n run))
+              continued_good n t (agreed (length field) k n a.header.pointer way.some_held (rw (sym e ∙ t.told) at g))
+              (ended (walk_of F limit run)) (ended (walk_of F limit (drop n run))) w i (walk_in_row F laws limit run)
+              (walk_in_row F laws limit (drop n run))
 
     -- step 4
-    hunted-good : Good (hunted F limit field a.header.pointer)
+    hunted_good : Good (hunted F limit field a.header.pointer)
     unfolding hunted
-    hunted-good = go (eqb a.header.pointer none_starts)
+    hunted_good = go (eqb a.header.pointer none_starts)
       where
         go : (b : Bool) → Good (pick b (only Hunting) (ended (walk_of F limit (drop a.header.pointer field))))
-        go true = hunts-good
-        go false = inside-good (drop a.header.pointer field) refl
+        go true = hunts_good
+        go false = inside_good (drop a.header.pointer field) refl
 
     -- step 3
     module _ (follows : channel_follows F limit part c ≡ true) (no_gap : a.gap ≡ 0) (gap : a.gap ≡ gap_for c a.header)
         (small : a.header.count.0 < 256) where
-      agreed-good : (k : ℕ) → c.state ≡ Gathering k → Dec (k ≡ 0)
+      agreed_good : (k : ℕ) → c.state ≡ Gathering k → Dec (k ≡ 0)
           → agrees (length field) k (F.size (take k part ++ field)) a.header.pointer ≡ true
           → a.broken ≡ (ended (walk_of F limit (take k part ++ field))).broken
           → a.disagreement ≡ (ended (walk_of F limit (take k part ++ field))).disagreement
           → Good (ended (walk_of F limit (take k part ++ field)))
-      agreed-good k e (yes z) g x y =
-          inside-good (take k part ++ field)
+      agreed_good k e (yes z) g x y =
+          inside_good (take k part ++ field)
           (ap (λ (m : ℕ). drop m field) (agreed_none (length field) k (F.size (take k part ++ field)) a.header.pointer z g)
           ∙ from_called field 0 few (omega arith) ∙ ap (λ (m : ℕ). take m part ++ field) (sym z))
-      agreed-good k e (no z) g x y =
+      agreed_good k e (no z) g x y =
           let w = walk_of F limit (take k part ++ field) in
           let n = clean w.end [] w.whole w.rest in
           let heard = gathering_heard F limit part c k follows e in
-          gathered-good k
+          gathered_good k
           (record {
             heard = heard;
             gathering = e;
@@ -290,38 +290,38 @@ module _ (F : Family) (laws : Lawful F) (limit : ℕ) (c : Channel) (part field 
           })
           (rw e at (state_follows F limit part c follows)) (F.size (take k part ++ field)) refl g
 
-      resumed-good : (s : State) → c.state ≡ s → a.broken ≡ (resumed F limit part field a.header.pointer s).broken
+      resumed_good : (s : State) → c.state ≡ s → a.broken ≡ (resumed F limit part field a.header.pointer s).broken
           → a.disagreement ≡ (resumed F limit part field a.header.pointer s).disagreement
           → Good (resumed F limit part field a.header.pointer s)
       unfolding resumed gathered skipped
-      resumed-good Hunting e x y = hunted-good
-      resumed-good (Gathering k) e x y = go (agrees (length field) k (F.size (take k part ++ field)) a.header.pointer) refl x y
+      resumed_good Hunting e x y = hunted_good
+      resumed_good (Gathering k) e x y = go (agrees (length field) k (F.size (take k part ++ field)) a.header.pointer) refl x y
         where
           done : Bool → Done
           done b = pick b (ended (walk_of F limit (take k part ++ field))) (disagreed (Gathering k) (hunted F limit field a.header.pointer))
 
           go : (b : Bool) → agrees (length field) k (F.size (take k part ++ field)) a.header.pointer ≡ b
               → a.broken ≡ (done b).broken → a.disagreement ≡ (done b).disagreement → Good (done b)
-          go true g x y = agreed-good k e (ℕ_discrete k 0) g x y
-          go false g x y = hunted-good
-      resumed-good (Skipping r) e x y = go (eqb a.header.pointer (called_at (length field) r)) refl (leb r (length field)) refl
+          go true g x y = agreed_good k e (ℕ_discrete k 0) g x y
+          go false g x y = hunted_good
+      resumed_good (Skipping r) e x y = go (eqb a.header.pointer (called_at (length field) r)) refl (leb r (length field)) refl
         where
           go : (b : Bool) → eqb a.header.pointer (called_at (length field) r) ≡ b → (l : Bool) → leb r (length field) ≡ l
               → Good (pick b (pick l (ended (walk_of F limit (drop r field))) (only (Skipping (r - length field))))
               (disagreed (Skipping r) (hunted F limit field a.header.pointer)))
           go true g true l =
-              inside-good (drop r field)
+              inside_good (drop r field)
               (ap (λ (m : ℕ). drop m field) (eqb-true a.header.pointer (called_at (length field) r) g)
               ∙ from_called field r few (leb-true r (length field) l))
-          go true g false l = none-good (only (Skipping (r - length field))) refl (nothing_held refl) (λ k q. not_gathering k q (inr (_, refl))) (λ _. refl)
-          go false g b l = hunted-good
+          go true g false l = none_good (only (Skipping (r - length field))) refl (nothing_held refl) (λ k q. not_gathering k q (inr (_, refl))) (λ _. refl)
+          go false g b l = hunted_good
 
   -- steps 1 and 2
-  steps-good : a.header.count.0 < 256 → a.kind ≡ kind_of a.header → a.gap ≡ gap_for c a.header → a.broken ≡ (steps_of F limit part field a.header c).broken
+  steps_good : a.header.count.0 < 256 → a.kind ≡ kind_of a.header → a.gap ≡ gap_for c a.header → a.broken ≡ (steps_of F limit part field a.header c).broken
       → a.disagreement ≡ (steps_of F limit part field a.header c).disagreement → channel_follows F limit part c ≡ true
       → Good (steps_of F limit part field a.header c)
   unfolding steps_of
-  steps-good small kind gap x y follows = go (carries_none a.header) refl (eqb (gap_for c a.header) 0) refl x y
+  steps_good small kind gap x y follows = go (carries_none a.header) refl (eqb (gap_for c a.header) 0) refl x y
     where
       done : Bool → Bool → Done
       done b g =
@@ -330,10 +330,10 @@ module _ (F : Family) (laws : Lawful F) (limit : ℕ) (c : Channel) (part field 
 
       go : (b : Bool) → carries_none a.header ≡ b → (g : Bool) → eqb (gap_for c a.header) 0 ≡ g → a.broken ≡ (done b g).broken
           → a.disagreement ≡ (done b g).disagreement → Good (done b g)
-      go true p g q x y = hunts-good
-      go false p false q x y = hunted-good (kind ∙ carries_packets a.header p)
+      go true p g q x y = hunts_good
+      go false p false q x y = hunted_good (kind ∙ carries_packets a.header p)
       go false p true q x y =
-          resumed-good (kind ∙ carries_packets a.header p) follows (gap ∙ eqb-true (gap_for c a.header) 0 q) gap small c.state refl x y
+          resumed_good (kind ∙ carries_packets a.header p) follows (gap ∙ eqb-true (gap_for c a.header) 0 q) gap small c.state refl x y
 
 -- a frame that carries no packets leaves its channel hunting
 none_hunts : (F : Family) (limit : ℕ) (part field : List ℕ) (h : Header) (c : Channel) → (kind_of h ≡ Packets → ⊥)
@@ -377,8 +377,8 @@ nothing_glued_general F limit laws u rec store out f a e =
     let s = opened_sound u f x (opened F limit u rec store out f none) in
     let d : Done = done_by F limit x rec store f in
     let told : report_of F x (channel_of x rec) d ≡ a = cc l.answers in
-    let g = steps-good F laws limit (channel_of x rec) (part_of limit x.header.channel store) (field_of x f) (report_of F x (channel_of x rec) d)
-    (part-whole rec x f store out r) (omega (arith, field-length rec x f store out r, r.few)) s.count_bits refl refl refl refl
+    let g = steps_good F laws limit (channel_of x rec) (part_of limit x.header.channel store) (field_of x f) (report_of F x (channel_of x rec) d)
+    (part_whole rec x f store out r) (omega (arith, field_length rec x f store out r, r.few)) s.count_bits refl refl refl refl
     (own_follows F limit store rec x.header.channel r.follows) in
     rw (← told) (record {
       handed = wanted F d.whole;

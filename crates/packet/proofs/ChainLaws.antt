@@ -23,15 +23,15 @@ front_of_first p r w =
     sym (front_whole (p ++ r) (length p) (source_lawful.total_stays p r (length p) w) (simp length-append (omega arith)))
 
 module _ (p r : List ℕ) (w : Whole source p) where
-  front-some : 1 ≤ front_of (p ++ r)
-  front-some = omega (arith, front_of_first p r w, source_lawful.total_least p (length p) w)
+  front_some : 1 ≤ front_of (p ++ r)
+  front_some = omega (arith, front_of_first p r w, source_lawful.total_least p (length p) w)
 
-  behind-first : behind (p ++ r) ≡ r
-  behind-first = drop_at p r (front_of (p ++ r)) (sym (front_of_first p r w))
+  behind_first : behind (p ++ r) ≡ r
+  behind_first = drop_at p r (front_of (p ++ r)) (sym (front_of_first p r w))
 
   -- past a whole packet the distance is that in the rest
-  distance-over : (k : ℕ) → distance_of (p ++ r) (length p + k) ≡ distance_of r k
-  distance-over k = go (ℕ_discrete k 0)
+  distance_over : (k : ℕ) → distance_of (p ++ r) (length p + k) ≡ distance_of r k
+  distance_over k = go (ℕ_discrete k 0)
     where
       f : front_of (p ++ r) ≡ length p
       f = front_of_first p r w
@@ -39,15 +39,15 @@ module _ (p r : List ℕ) (w : Whole source p) where
       go : Dec (k ≡ 0) → distance_of (p ++ r) (length p + k) ≡ distance_of r k
       go (yes e) =
           let z : front_of (p ++ r) - (length p + k) ≡ 0 = omega (arith, f) in
-          distance_in_lem (p ++ r) (length p + k) (omega (arith, f, front-some)) (omega (arith, f)) ∙ z ∙ sym (distance_here r) ∙ ap (distance_of r) (sym e)
+          distance_in_lem (p ++ r) (length p + k) (omega (arith, f, front_some)) (omega (arith, f)) ∙ z ∙ sym (distance_here r) ∙ ap (distance_of r) (sym e)
       go (no e) =
           let z : length p + k - front_of (p ++ r) ≡ k = omega (arith, f) in
-          distance_past (p ++ r) (length p + k) front-some (omega (arith, f)) ∙ ap₂ distance_of behind-first z
+          distance_past (p ++ r) (length p + k) front_some (omega (arith, f)) ∙ ap₂ distance_of behind_first z
 
 chain_of_lem : (ps : List (List ℕ)) → AllWhole source ps → chain_of (end_to_end ps) ≡ true
 chain_of_lem [] a = chain_none [] refl
 chain_of_lem (p ∷ ps) a =
-    chain_more (p ++ end_to_end ps) (front-some p (end_to_end ps) a.0) ∙ ap chain_of (behind-first p (end_to_end ps) a.0) ∙ chain_of_lem ps a.1
+    chain_more (p ++ end_to_end ps) (front_some p (end_to_end ps) a.0) ∙ ap chain_of (behind_first p (end_to_end ps) a.0) ∙ chain_of_lem ps a.1
 
 -- and a chain is packets laid end to end
 abbrev Packets : List ℕ → Type 0
@@ -90,7 +90,7 @@ distance_behind : (before after : List (List ℕ)) (k : ℕ) → AllWhole source
 distance_behind [] after k a = ap (distance_of (end_to_end after)) (zero-add k)
 distance_behind (p ∷ ps) after k a =
     let r = end_to_end (ps ++ after) in
-    rw (length-append p (end_to_end ps), add_assoc) (distance-over p r a.0 (length (end_to_end ps) + k)) ∙ distance_behind ps after k a.1
+    rw (length-append p (end_to_end ps), add_assoc) (distance_over p r a.0 (length (end_to_end ps) + k)) ∙ distance_behind ps after k a.1
 
 pub distance_exactly : DistanceExactly
 distance_exactly before p behind a w b =

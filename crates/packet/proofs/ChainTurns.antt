@@ -19,13 +19,13 @@ use Rattle.packet.proofs.Laws.{source_lawful}
 
 -- the front of a run, case by case
 module _ (d : List ℕ) where
-  pub front-waits : size_of d ≡ Wait → 0 ≡ front_of d
+  pub front_waits : size_of d ≡ Wait → 0 ≡ front_of d
   unfolding front_of whole_in
-  front-waits e = rw e
+  front_waits e = rw e
 
-  pub front-foreign : size_of d ≡ Foreign → 0 ≡ front_of d
+  pub front_foreign : size_of d ≡ Foreign → 0 ≡ front_of d
   unfolding front_of whole_in
-  front-foreign e = rw e
+  front_foreign e = rw e
 
   module _ (n : ℕ) (e : size_of d ≡ Total n) where
     pub front_whole : n ≤ length d → n ≡ front_of d
@@ -210,18 +210,18 @@ module _ (run : List ℕ) (at n : ℕ) (e : n ≡ front_of (drop at run)) (h : 1
   on : drop (at + n) run ≡ behind (drop at run)
   on = sym (drop-drop n at run) ∙ ap (λ (m : ℕ). drop m (drop at run)) e
 
-  chain-on : chain_of (drop (at + n) run) ≡ chain_of (drop at run)
-  chain-on = ap chain_of on ∙ sym (chain_more (drop at run) (omega arith))
+  chain_on : chain_of (drop (at + n) run) ≡ chain_of (drop at run)
+  chain_on = ap chain_of on ∙ sym (chain_more (drop at run) (omega arith))
 
-  pub tested-more : Tested run at → Tested run (at + n)
-  tested-more k = record { inside = packet_is_fit.1; same = chain-on ∙ k.same }
+  pub tested_more : Tested run at → Tested run (at + n)
+  tested_more k = record { inside = packet_is_fit.1; same = chain_on ∙ k.same }
 
-  onward-more : (offset : ℕ) → at < offset → Dec (at + n < offset) → onward run offset (at + n) ≡ onward run offset at
-  onward-more offset l (yes b) =
+  onward_more : (offset : ℕ) → at < offset → Dec (at + n < offset) → onward run offset (at + n) ≡ onward run offset at
+  onward_more offset l (yes b) =
       let z : offset - (at + n) ≡ offset - at - front_of (drop at run) = omega arith in
       rw (lt-leb offset (at + n) b, lt-leb offset at l, on, z)
       (sym (distance_past (drop at run) (offset - at) (omega arith) (omega arith)))
-  onward-more offset l (no b) =
+  onward_more offset l (no b) =
       let z : at + n - offset ≡ front_of (drop at run) - (offset - at) = omega arith in
       rw (le-leb offset (at + n) (omega arith), lt-leb offset at l, z)
       (sym (distance_in_lem (drop at run) (offset - at) (omega arith) (omega arith)))
@@ -230,21 +230,21 @@ module _ (run : List ℕ) (at n : ℕ) (e : n ≡ front_of (drop at run)) (h : 1
   passed_more offset l k =
       record {
         inside = packet_is_fit.1;
-        chain = chain-on ∙ k.chain;
-        same = onward-more offset l (dec_lt (at + n) offset) ∙ k.same;
+        chain = chain_on ∙ k.chain;
+        same = onward_more offset l (dec_lt (at + n) offset) ∙ k.same;
       }
 
 -- where a test begins, and where it ends
 module _ (run : List ℕ) where
-  pub tested-start : Tested run 0
-  tested-start = record { inside = omega arith; same = refl }
+  pub tested_start : Tested run 0
+  tested_start = record { inside = omega arith; same = refl }
 
   module _ (at : ℕ) (k : Tested run at) where
-    pub tested-stop : at < length run → front_of (drop at run) ≡ 0 → false ≡ chain_of run
-    tested-stop l e = sym (chain_stop (drop at run) (omega (arith, length-drop at run)) e) ∙ k.same
+    pub tested_stop : at < length run → front_of (drop at run) ≡ 0 → false ≡ chain_of run
+    tested_stop l e = sym (chain_stop (drop at run) (omega (arith, length-drop at run)) e) ∙ k.same
 
-    pub tested-end : length run ≤ at → true ≡ chain_of run
-    tested-end l = sym (chain_none (drop at run) (omega (arith, length-drop at run))) ∙ k.same
+    pub tested_end : length run ≤ at → true ≡ chain_of run
+    tested_end l = sym (chain_none (drop at run) (omega (arith, length-drop at run))) ∙ k.same
 
   module _ (offset : ℕ) where
     pub passed_start : chain_of run ≡ true → Passed run offset 0
@@ -258,8 +258,8 @@ module _ (run : List ℕ) where
 
     module _ (at : ℕ) (k : Passed run offset at) where
       -- before the offset a packet stands
-      pub passed-front : (n : ℕ) → n ≡ front_of (drop at run) → at < offset → offset ≤ length run → 1 ≤ n
-      passed-front n e l h = omega (arith, chain_front (drop at run) k.chain (omega (arith, length-drop at run)))
+      pub passed_front : (n : ℕ) → n ≡ front_of (drop at run) → at < offset → offset ≤ length run → 1 ≤ n
+      passed_front n e l h = omega (arith, chain_front (drop at run) k.chain (omega (arith, length-drop at run)))
 
       pub passed_end : offset ≤ at → at - offset ≡ distance_of run offset
       passed_end l = rw (le-leb offset at l) at k.same

@@ -51,43 +51,43 @@ header_laid =
 
 -- the version, the type and the secondary header flag, from the first octet
 module _ (p : List ℕ) where
-  pub version-at : version_of p ≡ get_or p 0 0 / 32 % 8
+  pub version_at : version_of p ≡ get_or p 0 0 / 32 % 8
   unfolding value_in bits_from first_among width_among bits_at number_at
-  version-at = omega arith
+  version_at = omega arith
 
   type_at : value_in packet_header p 0 PacketItem.type_bit ≡ get_or p 0 0 / 16 % 2
   unfolding value_in bits_from first_among width_among bits_at number_at
   type_at = omega arith
 
-  secondary-at : value_in packet_header p 0 PacketItem.secondary_flag ≡ get_or p 0 0 / 8 % 2
+  secondary_at : value_in packet_header p 0 PacketItem.secondary_flag ≡ get_or p 0 0 / 8 % 2
   unfolding value_in bits_from first_among width_among bits_at number_at
-  secondary-at = omega arith
+  secondary_at = omega arith
 
   -- the application id, from the first two
-  pub application-is : application_of p ≡ number_at p 0 2 % 2048
+  pub application_is : application_of p ≡ number_at p 0 2 % 2048
   unfolding value_in bits_from first_among width_among bits_at
-  application-is = rw div-one
+  application_is = rw div-one
 
   -- the grouping flags and the sequence count, from the next two
-  grouping-at : value_in packet_header p 0 PacketItem.grouping_flags ≡ get_or p 2 0 / 64 % 4
+  grouping_at : value_in packet_header p 0 PacketItem.grouping_flags ≡ get_or p 2 0 / 64 % 4
   unfolding value_in bits_from first_among width_among bits_at number_at
-  grouping-at = omega arith
+  grouping_at = omega arith
 
-  sequence-at : value_in packet_header p 0 PacketItem.sequence_count ≡ number_at p 2 2 % 16384
+  sequence_at : value_in packet_header p 0 PacketItem.sequence_count ≡ number_at p 2 2 % 16384
   unfolding value_in bits_from first_among width_among bits_at
-  sequence-at = rw div-one
+  sequence_at = rw div-one
 
   -- the length field, from the last two
-  pub total-at : total_of p ≡ number_at p 4 2 % 65536 + 7
+  pub total_at : total_of p ≡ number_at p 4 2 % 65536 + 7
   unfolding value_in bits_from first_among width_among bits_at
-  total-at = rw div-one
+  total_at = rw div-one
 
   -- of octets
   pub version_is : get_or p 0 0 < 256 → version_of p ≡ get_or p 0 0 / 32
-  version_is h = omega (arith, version-at)
+  version_is h = omega (arith, version_at)
 
-  pub total-is : number_at p 4 2 < 65536 → total_of p ≡ number_at p 4 2 + 7
-  total-is h = omega (arith, total-at)
+  pub total_is : number_at p 4 2 < 65536 → total_of p ≡ number_at p 4 2 + 7
+  total_is h = omega (arith, total_at)
 
   -- the values that the code makes are the header's
   pub header_is : (v x w z y t : ℕ) → v ≡ version_of p → x ≡ get_or p 0 0 → w ≡ number_at p 0 2 % 2048 → z ≡ get_or p 2 0 → z < 256
@@ -108,9 +108,9 @@ module _ (p : List ℕ) where
       rw (ev, ex, ew, ez, ey, et) (sym (λ i. record {
         version = version_of p;
         type_bit = type_at i;
-        secondary = eqb (secondary-at i) 1;
-        application = application-is i;
-        grouping = (grouping-at ∙ g) i;
-        sequence = sequence-at i;
+        secondary = eqb (secondary_at i) 1;
+        application = application_is i;
+        grouping = (grouping_at ∙ g) i;
+        sequence = sequence_at i;
         total = total_of p;
       }))

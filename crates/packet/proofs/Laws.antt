@@ -17,7 +17,7 @@ use Rattle.packet.specs.declared.source.Size.TheVariants.{Wait, Foreign, Total}
 use Rattle.octets.specs.Octets.{Octets}
 use Rattle.packet.specs.Size.{least, packet_fits, version_of, total_of, idle_of, size_of}
 use Rattle.packet.specs.Theorems.{InWords, SizeInWords, InOctetsLaw, IdleTold, SourceLawful, FirstTells, FitsExactly, FitsByLimit, TotalMost, SixTell}
-use Rattle.packet.proofs.HeaderLaws.{version-at, version_is, application-is, total-at, total-is}
+use Rattle.packet.proofs.HeaderLaws.{version_at, version_is, application_is, total_at, total_is}
 
 pub size_in_words : SizeInWords
 unfolding size_of
@@ -32,8 +32,8 @@ pub in_octets : InOctetsLaw
 unfolding idle_of
 in_octets p = record {
   version = version_is p;
-  idle = ap (λ (n : ℕ). eqb n 2047) (application-is p ∙ ap (λ (n : ℕ). n % 2048) (number_two p 0));
-  total = λ a b. total-is p (number_two_lt p 4 a b) ∙ ap (λ (n : ℕ). n + 7) (number_two p 4);
+  idle = ap (λ (n : ℕ). eqb n 2047) (application_is p ∙ ap (λ (n : ℕ). n % 2048) (number_two p 0));
+  total = λ a b. total_is p (number_two_lt p 4 a b) ∙ ap (λ (n : ℕ). n + 7) (number_two p 4);
 }
 
 pub idle_told : IdleTold
@@ -69,13 +69,13 @@ packet_case p = first (ℕ_discrete (length p) 0)
 
 -- what the first octet tells, and the first six, is the same with more behind them
 version_more : (p q : List ℕ) → 1 ≤ length p → version_of (p ++ q) ≡ version_of p
-version_more p q h = version-at (p ++ q) ∙ rw (get_or-append p q 0 0 h) (sym (version-at p))
+version_more p q h = version_at (p ++ q) ∙ rw (get_or-append p q 0 0 h) (sym (version_at p))
 
 total_more : (p q : List ℕ) → 6 ≤ length p → total_of (p ++ q) ≡ total_of p
 total_more p q h =
     let a : 4 < length p = omega arith in
     let b : 5 < length p = omega arith in
-    total-at (p ++ q) ∙ rw (number_two (p ++ q) 4, get_or-append p q 0 4 a, get_or-append p q 0 5 b, ← number_two p 4) (sym (total-at p))
+    total_at (p ++ q) ∙ rw (number_two (p ++ q) 4, get_or-append p q 0 4 a, get_or-append p q 0 5 b, ← number_two p 4) (sym (total_at p))
 
 longer : (p q : List ℕ) → length p ≤ length (p ++ q)
 longer p q = simp length-append (omega arith)
@@ -157,7 +157,7 @@ total_most p n e = go (packet_case p)
     go (none h) = wait_total (w.none h) e
     go (other h v) = foreign_total (w.other h v) e
     go (few h v l) = wait_total (w.few h v l) e
-    go (six h v) = omega (arith, total_same (w.six h v) e, total-at p)
+    go (six h v) = omega (arith, total_same (w.six h v) e, total_at p)
 
 last_tells : (p q : List ℕ) (n : ℕ) → size_of (p ++ q) ≡ Total n → n ≤ length p → size_of p ≡ Total n
 last_tells p q n e h = go (packet_case p)

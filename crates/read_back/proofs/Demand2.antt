@@ -18,7 +18,7 @@ use Rattle.demands.specs.History.Event.{arrives}
 use Rattle.read_back.specs.WriterSends.{frames_of}
 use Rattle.read_back.proofs.Places.{none_refused}
 use Rattle.read_back.proofs.Reaches.{gets_there}
-use Rattle.read_back.proofs.WriterSends.{begins, one_run, one_writable, one-frames, one-filled, one_packets, runs_read_back_general}
+use Rattle.read_back.proofs.WriterSends.{begins, one_run, one_writable, one_frames, one_filled, one_packets, runs_read_back_general}
 
 as_many : (u : SetUp) (v : ℕ) (run : List ℕ) (cs : List Writing) (p : Place) → length (frames u v run p cs) ≡ length cs
 unfolding frames
@@ -32,13 +32,13 @@ demand2_general limit G u v ps p cs store outs fits channel w real short start l
     let s = begins i in
     let rs = one_run ps cs in
     let fs = frames u v (end_to_end ps) p cs in
-    let e = one-frames u v ps p cs in
+    let e = one_frames u v ps p cs in
     let m : length outs ≡ length (frames_of u v p rs) = many ∙ sym (ap length e ∙ as_many u v (end_to_end ps) cs p) in
     let b = runs_read_back_general limit G u v p rs store outs i tt whole octets m roomy in
     record {
       written = none_refused cs p s fair;
       gets_there = λ h. gets_there cs p s fair (omega arith);
-      read_back = rw (one-filled u v ps p cs, e) at b.read_back;
+      read_back = rw (one_filled u v ps p cs, e) at b.read_back;
       smooth = rw e at b.smooth;
       all_out = λ z.
           ap (λ (x : List (List ℕ)). handed_out source limit u fresh_record store x (map arrives outs)) (sym e)

@@ -102,25 +102,25 @@ module _ (placed room : ℕ) (n : placed ≡ 0 → ⊥) where
           wide i (rw (ne_eqb placed 0 n, ne_eqb room 0 z, le-leb 7 room i)) (rw (ne_eqb placed 0 n, le-leb 7 room i))
           (rw (ne_eqb placed 0 n, le-leb 7 room i))
 
-  pub filler-long : length (end_to_end (filler_for placed room)) ≡ room + left_after placed room
-  filler-long = go room_of
+  pub filler_long : length (end_to_end (filler_for placed room)) ≡ room + left_after placed room
+  filler_long = go room_of
     where
       go : Room → length (end_to_end (filler_for placed room)) ≡ room + left_after placed room
       go (none z f l o) = rw (f, l) (omega arith)
       go (wide h f l o) = rw (f, l) (omega (arith, length-append (idle_packet room) [], length_idle room h))
       go (close h i f l o) = rw (f, l) (omega arith)
 
-  filler-take : take room (end_to_end (filler_for placed room)) ≡ filler_of placed room
-  filler-take = go room_of
+  filler_take : take room (end_to_end (filler_for placed room)) ≡ filler_of placed room
+  filler_take = go room_of
     where
       go : Room → take room (end_to_end (filler_for placed room)) ≡ filler_of placed room
       go (none z f l o) = rw (f, o) (take-nil room)
       go (wide h f l o) = rw (f, o, append-nil (idle_packet room)) (take_all room (idle_packet room) (omega (arith, length_idle room h)))
       go (close h i f l o) = rw (f, o)
 
-  filler-drop : drop room (marks_of_all (filler_for placed room)) ≡ inner (drop (7 - left_after placed room) short_idle)
+  filler_drop : drop room (marks_of_all (filler_for placed room)) ≡ inner (drop (7 - left_after placed room) short_idle)
   unfolding marks_of_all inner
-  filler-drop = go room_of
+  filler_drop = go room_of
     where
       go : Room → drop room (marks_of_all (filler_for placed room)) ≡ inner (drop (7 - left_after placed room) short_idle)
       go (none z f l o) = rw (f, l, z)
@@ -162,20 +162,20 @@ over_alone : (l a over : ℕ) → a ≡ l → l - a + over ≡ over
 over_alone l a over e = omega arith
 
 module _ (D l k a b n : ℕ) (ea : a ≡ min l D) (eb : b ≡ min k (D - a)) (en : n ≡ a + b) where
-  left-fills : D ≤ l → (a ≡ D) × (D - l ≡ b) × (D - n ≡ 0)
-  left-fills h =
+  left_fills : D ≤ l → (a ≡ D) × (D - l ≡ b) × (D - n ≡ 0)
+  left_fills h =
       let i : a ≡ D = omega arith in
       let j : b ≡ 0 = omega arith in
       (i, omega arith, omega arith)
 
-  run-fills : l < D → D - l < k → (a ≡ l) × (D - l ≡ b) × (D - n ≡ 0)
-  run-fills h m =
+  run_fills : l < D → D - l < k → (a ≡ l) × (D - l ≡ b) × (D - n ≡ 0)
+  run_fills h m =
       let i : a ≡ l = omega arith in
       let j : D - l ≡ b = omega arith in
       (i, j, omega arith)
 
-  both-fit : l < D → k ≤ D - l → (a ≡ l) × (b ≡ k)
-  both-fit h m =
+  both_fit : l < D → k ≤ D - l → (a ≡ l) × (b ≡ k)
+  both_fit h m =
       let i : a ≡ l = omega arith in
       (i, omega arith)
 
@@ -183,14 +183,14 @@ module _ (D l k a b n : ℕ) (ea : a ≡ min l D) (eb : b ≡ min k (D - a)) (en
 -- filler's rest
 module _ (L : List Mark) (o l D a b n over : ℕ) (G : List Mark) (few : l ≤ 6) (inside : o ≤ length L) (ea : a ≡ min l D)
     (eb : b ≡ min (length L - o) (D - a)) (en : n ≡ a + b) (g : G ≡ inner (drop (7 - over) short_idle)) (z : D - n ≡ 0 → over ≡ 0) where
-  none-behind : D - n ≡ 0 → G ≡ []
+  none_behind : D - n ≡ 0 → G ≡ []
   unfolding inner
-  none-behind e = g ∙ ap (λ (k : ℕ). inner (drop (7 - k) short_idle)) (z e)
+  none_behind e = g ∙ ap (λ (k : ℕ). inner (drop (7 - k) short_idle)) (z e)
 
-  later-plain : inner (drop D (drop (7 - l) short_idle)) ++ (drop (o + (D - l)) L ++ G)
+  later_plain : inner (drop D (drop (7 - l) short_idle)) ++ (drop (o + (D - l)) L ++ G)
       ≡ inner (drop (7 - (l - a + over)) short_idle) ++ drop (o + b) L
   unfolding inner
-  later-plain = go (dec_lt l D) (dec_lt (D - l) (length L - o))
+  later_plain = go (dec_lt l D) (dec_lt (D - l) (length L - o))
     where
       Goal : Type 0
       Goal = inner (drop D (drop (7 - l) short_idle)) ++ (drop (o + (D - l)) L ++ G)
@@ -201,16 +201,16 @@ module _ (L : List Mark) (o l D a b n over : ℕ) (G : List Mark) (few : l ≤ 6
 
       go : Dec (l < D) → Dec (D - l < length L - o) → Goal
       go (no h) d =
-          let f = left-fills D l (length L - o) a b n ea eb en (omega arith) in
+          let f = left_fills D l (length L - o) a b n ea eb en (omega arith) in
           let k : 7 - l + D ≡ 7 - (l - a + over) = left_less l D few (omega arith) ∙ ap₂ (λ (x y : ℕ). 7 - (l - x + y)) (sym f.0) (sym (z f.2)) in
-          rw (none-behind f.2, append-nil (drop (o + (D - l)) L), drop-drop D (7 - l) short_idle, k, f.1)
+          rw (none_behind f.2, append-nil (drop (o + (D - l)) L), drop-drop D (7 - l) short_idle, k, f.1)
       go (yes h) (yes i) =
-          let f = run-fills D l (length L - o) a b n ea eb en h i in
+          let f = run_fills D l (length L - o) a b n ea eb en h i in
           let m : l - a + over ≡ 0 = over_alone l a over f.0 ∙ z f.2 in
-          rw (none-behind f.2, append-nil (drop (o + (D - l)) L), tail-gone h, f.1, m)
+          rw (none_behind f.2, append-nil (drop (o + (D - l)) L), tail-gone h, f.1, m)
       go (yes h) (no i) =
           let j : length L - o ≤ D - l = omega arith in
-          let f = both-fit D l (length L - o) a b n ea eb en h j in
+          let f = both_fit D l (length L - o) a b n ea eb en h j in
           let x : drop (o + (D - l)) L ≡ [] = drop_of_length-le L {i = o + (D - l)} (past (length L) o (D - l) j) in
           let y : drop (o + b) L ≡ [] = drop_of_length-le L {i = o + b} (past (length L) o b (at_least (length L - o) b f.1)) in
           rw (tail-gone h, x, y, over_alone l a over f.0, append-nil (inner (drop (7 - over) short_idle))) g
@@ -228,8 +228,8 @@ module _ (ps : List (List ℕ)) (offset left D : ℕ) (few : left ≤ 6) (inside
   run_long : length (drop offset (marks_of_all ps)) ≡ length (end_to_end ps) - offset
   run_long = length-drop offset (marks_of_all ps) ∙ ap (λ (k : ℕ). k - offset) (length_laid ps)
 
-  tail-long : length (inner (drop (7 - left) short_idle)) ≡ left
-  tail-long = length_inner (drop (7 - left) short_idle) ∙ length_tail left few
+  tail_long : length (inner (drop (7 - left) short_idle)) ≡ left
+  tail_long = length_inner (drop (7 - left) short_idle) ∙ length_tail left few
 
   record Sizes : Type 0 where
     over : length (left_part D left) ≡ min left D
@@ -244,22 +244,22 @@ module _ (ps : List (List ℕ)) (offset left D : ℕ) (few : left ≤ 6) (inside
         both = length_placed D (end_to_end ps) offset left;
       }
 
-  room-is : D - left - (length (end_to_end ps) - offset) ≡ D - length (placed_part D (end_to_end ps) offset left)
-  room-is = let z = sizes in room_plain D left (length (end_to_end ps) - offset) _ _ _ z.over z.there z.both
+  room_is : D - left - (length (end_to_end ps) - offset) ≡ D - length (placed_part D (end_to_end ps) offset left)
+  room_is = let z = sizes in room_plain D left (length (end_to_end ps) - offset) _ _ _ z.over z.there z.both
 
-  marks-long : D ≤ length marks
+  marks_long : D ≤ length marks
   unfolding marks filler
-  marks-long =
+  marks_long =
       let f = filler_for (length (placed_part D (end_to_end ps) offset left)) (D - length (placed_part D (end_to_end ps) offset left)) in
       omega (
         arith,
         length-append (inner (drop (7 - left) short_idle)) (drop offset (marks_of_all ps) ++ marks_of_all f),
         length-append (drop offset (marks_of_all ps)) (marks_of_all f),
         run_long,
-        tail-long,
-        room-is,
+        tail_long,
+        room_is,
         length_laid f,
-        filler-long (length (placed_part D (end_to_end ps) offset left)) (D - length (placed_part D (end_to_end ps) offset left)) some,
+        filler_long (length (placed_part D (end_to_end ps) offset left)) (D - length (placed_part D (end_to_end ps) offset left)) some,
       )
 
   octets_are : octets_marked marks ≡ drop (7 - left) short_idle ++ (drop offset (end_to_end ps) ++ end_to_end filler)
@@ -270,20 +270,20 @@ module _ (ps : List (List ℕ)) (offset left D : ℕ) (few : left ≤ 6) (inside
       (octets_append (drop offset (marks_of_all ps)) (marks_of_all filler)
       ∙ ap₂ (λ (a b : List ℕ). a ++ b) (octets_drop offset (marks_of_all ps) ∙ ap (drop offset) (octets_laid ps)) (octets_laid filler))
 
-  marks-field : octets_marked (take D marks) ≡ field_of D (end_to_end ps) offset left
+  marks_field : octets_marked (take D marks) ≡ field_of D (end_to_end ps) offset left
   unfolding field_of placed_part left_part run_part filler
-  marks-field =
+  marks_field =
       let a = drop (7 - left) short_idle in
       let r = drop offset (end_to_end ps) in
       let z : D - length a ≡ D - length (left_part D left) =
       ap (λ (k : ℕ). D - k) (length_tail left few) ∙ over_plain D left (length (left_part D left)) (length_left D left few) in
       let y : D - length a - length r ≡ D - length (placed_part D (end_to_end ps) offset left) =
-      ap₂ (λ (k m : ℕ). D - k - m) (length_tail left few) (length-drop offset (end_to_end ps)) ∙ room-is in
+      ap₂ (λ (k m : ℕ). D - k - m) (length_tail left few) (length-drop offset (end_to_end ps)) ∙ room_is in
       octets_take D marks ∙ ap (take D) octets_are ∙ take_both D a (r ++ end_to_end filler)
       ∙ ap (λ (l : List ℕ). take D a ++ l)
       (take_both (D - length a) r (end_to_end filler)
       ∙ ap₂ (λ (k m : ℕ). take k r ++ take m (end_to_end filler)) z y
-      ∙ ap (λ (l : List ℕ). take (D - length (left_part D left)) r ++ l) (filler-take _ _ some))
+      ∙ ap (λ (l : List ℕ). take (D - length (left_part D left)) r ++ l) (filler_take _ _ some))
       ∙ sym (append_assoc (take D a) (take (D - length (left_part D left)) r) _)
 
   -- what the next place has left of these
@@ -292,29 +292,29 @@ module _ (ps : List (List ℕ)) (offset left D : ℕ) (few : left ≤ 6) (inside
       ++ drop (offset + length (run_part D (end_to_end ps) offset left)) (marks_of_all ps)
 
   -- the parts of what is behind the field
-  marks-parts : drop D marks ≡ inner (drop D (drop (7 - left) short_idle))
+  marks_parts : drop D marks ≡ inner (drop D (drop (7 - left) short_idle))
       ++ (drop (offset + (D - left)) (marks_of_all ps) ++ drop (D - length (placed_part D (end_to_end ps) offset left)) (marks_of_all filler))
   unfolding marks
-  marks-parts =
+  marks_parts =
       let a = inner (drop (7 - left) short_idle) in
       let b = drop offset (marks_of_all ps) in
       drop_both D a (b ++ marks_of_all filler)
       ∙ ap₂ (λ (x y : List Mark). x ++ y) (drop_inner D (drop (7 - left) short_idle))
-      (ap (λ (k : ℕ). drop (D - k) (b ++ marks_of_all filler)) tail-long
+      (ap (λ (k : ℕ). drop (D - k) (b ++ marks_of_all filler)) tail_long
       ∙ drop_both (D - left) b (marks_of_all filler)
       ∙ ap₂ (λ (x y : List Mark). x ++ y) (drop-drop (D - left) offset (marks_of_all ps))
-      (ap (λ (k : ℕ). drop k (marks_of_all filler)) (ap (λ (k : ℕ). D - left - k) run_long ∙ room-is)))
+      (ap (λ (k : ℕ). drop k (marks_of_all filler)) (ap (λ (k : ℕ). D - left - k) run_long ∙ room_is)))
 
   -- the left-over does not fit; the run does not; both do
-  marks-later : drop D marks ≡ later
+  marks_later : drop D marks ≡ later
   unfolding later filler left_over_after
-  marks-later =
+  marks_later =
       let n = length (placed_part D (end_to_end ps) offset left) in
-      marks-parts
-      ∙ later-plain (marks_of_all ps) offset left D (length (left_part D left)) (length (run_part D (end_to_end ps) offset left)) n
+      marks_parts
+      ∙ later_plain (marks_of_all ps) offset left D (length (left_part D left)) (length (run_part D (end_to_end ps) offset left)) n
       (left_after n (D - n)) (drop (D - n) (marks_of_all filler)) few (omega (arith, length_laid ps)) (length_left D left few)
       (length_run D (end_to_end ps) offset left ∙ ap (λ (k : ℕ). min (k - offset) (D - length (left_part D left))) (sym (length_laid ps)))
-      (length_placed D (end_to_end ps) offset left) (filler-drop n (D - n) some) (none_after n (D - n))
+      (length_placed D (end_to_end ps) offset left) (filler_drop n (D - n) some) (none_after n (D - n))
 
   module _ (fs : List (List ℕ)) where
     split : to_send ps offset left
@@ -326,21 +326,21 @@ module _ (ps : List (List ℕ)) (offset left D : ℕ) (few : left ≤ 6) (inside
         ∙ ap (λ (x : List Mark). inner (drop (7 - left) short_idle) ++ x) (sym (append_assoc (drop offset (marks_of_all ps)) (marks_of_all filler) (marks_of_all fs)))
         ∙ sym (append_assoc (inner (drop (7 - left) short_idle)) (drop offset (marks_of_all ps) ++ marks_of_all filler) (marks_of_all fs))
 
-    pub sends-long : D ≤ length (to_send ps offset left
+    pub sends_long : D ≤ length (to_send ps offset left
         (filler_for (length (placed_part D (end_to_end ps) offset left)) (D - length (placed_part D (end_to_end ps) offset left)) ++ fs))
-    sends-long = rw split (omega (arith, length-append marks (marks_of_all fs), marks-long))
+    sends_long = rw split (omega (arith, length-append marks (marks_of_all fs), marks_long))
 
-    pub sends-field : field_of D (end_to_end ps) offset left
+    pub sends_field : field_of D (end_to_end ps) offset left
         ≡ octets_marked (take D (to_send ps offset left
         (filler_for (length (placed_part D (end_to_end ps) offset left)) (D - length (placed_part D (end_to_end ps) offset left)) ++ fs)))
-    sends-field =
-        sym (ap (λ (x : List Mark). octets_marked (take D x)) split ∙ ap octets_marked (take-append-le D marks (marks_of_all fs) marks-long) ∙ marks-field)
+    sends_field =
+        sym (ap (λ (x : List Mark). octets_marked (take D x)) split ∙ ap octets_marked (take-append-le D marks (marks_of_all fs) marks_long) ∙ marks_field)
 
-    pub sends-later : drop D (to_send ps offset left
+    pub sends_later : drop D (to_send ps offset left
         (filler_for (length (placed_part D (end_to_end ps) offset left)) (D - length (placed_part D (end_to_end ps) offset left)) ++ fs))
         ≡ to_send ps (offset + length (run_part D (end_to_end ps) offset left)) (left_over_after D (end_to_end ps) offset left) fs
     unfolding later
-    sends-later =
-        ap (drop D) split ∙ drop-append-le D marks (marks_of_all fs) marks-long ∙ ap (λ (x : List Mark). x ++ marks_of_all fs) marks-later
+    sends_later =
+        ap (drop D) split ∙ drop-append-le D marks (marks_of_all fs) marks_long ∙ ap (λ (x : List Mark). x ++ marks_of_all fs) marks_later
         ∙ append_assoc (inner (drop (7 - left_over_after D (end_to_end ps) offset left) short_idle))
         (drop (offset + length (run_part D (end_to_end ps) offset left)) (marks_of_all ps)) (marks_of_all fs)

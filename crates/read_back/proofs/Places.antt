@@ -12,7 +12,7 @@ use Rattle.frame.specs.SetUp.{fits_of}
 use Rattle.table.specs.Table.{None}
 use Rattle.frame.specs.declared.closing.ControlWord.{ControlWord}
 use Rattle.frame.specs.declared.set_up.SetUp.{SetUp}
-use Rattle.table.proofs.Laws.{none-gives}
+use Rattle.table.proofs.Laws.{none_gives}
 use Rattle.writing.specs.Writing.{row24, write_table, answer_of, next_of, output_of, next_place, frame_written}
 use Rattle.writing.specs.declared.Answer.TheVariants.{Frame}
 use Rattle.writing.specs.declared.Place.{Place}
@@ -46,17 +46,17 @@ module _ {u : SetUp} {v : ℕ} {run : List ℕ} {p : Place} (s : Writes u v run 
     pub answers : answer_of u v p run out ≡ Frame
     answers = (written_exactly u v p run out).1 none
 
-    pub next-is : next_of u v p w run out ≡ next_place u p w run
+    pub next_is : next_of u v p w run out ≡ next_place u p w run
     unfolding next_of
-    next-is = none-gives (λ _. p) (next_place u p w run) (write_table u v p run out) none
+    next_is = none_gives (λ _. p) (next_place u p w run) (write_table u v p run out) none
 
-    pub output-is : output_of u v p w run out ≡ frame_written u v p w run
+    pub output_is : output_of u v p w run out ≡ frame_written u v p w run
     unfolding output_of
-    output-is = none-gives (λ _. out) (frame_written u v p w run) (write_table u v p run out) none
+    output_is = none_gives (λ _. out) (frame_written u v p w run) (write_table u v p run out) none
 
-    place-writes : Writes u v run (next_place u p w run)
+    place_writes : Writes u v run (next_place u p w run)
     unfolding next_place
-    place-writes =
+    place_writes =
         let g = goes_on u v p w run out answers in
         let t = passing u v (next_place u p w run) run out ((written_exactly u v (next_place u p w run) run out).0 g.next_passes) in
         record {
@@ -70,15 +70,15 @@ module _ {u : SetUp} {v : ℕ} {run : List ℕ} {p : Place} (s : Writes u v run 
           counted = after_lt p.count.0;
         }
 
-    pub next-writes : Writes u v run (next_of u v p w run out)
-    next-writes = rw next-is place-writes
+    pub next_writes : Writes u v run (next_of u v p w run out)
+    next_writes = rw next_is place_writes
 
 pub none_refused : {u : SetUp} {v : ℕ} {run : List ℕ} (cs : List Writing) (p : Place) → Writes u v run p → Fair u cs → NoneRefused u v run p cs
 none_refused [] p s f = tt
-none_refused (c ∷ cs) p s f = (answers s c.word c.out f.0, none_refused cs _ (next-writes s c.word c.out f.0) f.2)
+none_refused (c ∷ cs) p s f = (answers s c.word c.out f.0, none_refused cs _ (next_writes s c.word c.out f.0) f.2)
 
 pub writes_after : {u : SetUp} {v : ℕ} {run : List ℕ} (cs : List Writing) (p : Place) → Writes u v run p → Fair u cs
     → Writes u v run (place_after u v run p cs)
 unfolding place_after
 writes_after [] p s f = s
-writes_after (c ∷ cs) p s f = writes_after cs _ (next-writes s c.word c.out f.0) f.2
+writes_after (c ∷ cs) p s f = writes_after cs _ (next_writes s c.word c.out f.0) f.2

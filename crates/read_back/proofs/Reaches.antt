@@ -25,11 +25,11 @@ use Rattle.writing.proofs.LayingLaws.{length_left, length_run, length_placed, no
 use Rattle.read_back.specs.Demand2.{Writing, Fair, filler_for, fillers, frames, place_after}
 use Rattle.demands.specs.History.{carried}
 use Rattle.read_back.proofs.AllArrive.{total, total_none, total_more}
-use Rattle.demands.proofs.Calls.{carried_none, carried-all}
+use Rattle.demands.proofs.Calls.{carried_none, carried_all}
 use Rattle.demands.proofs.Hears.{not_idle}
-use Rattle.read_back.proofs.Lays.{filler_idle_frame, filler-long}
-use Rattle.read_back.proofs.Places.{Writes, few, answers, next-is, output-is, next-writes}
-use Rattle.read_back.proofs.Sending.{pointer_nothing, pointer_some, nothing_says, some-placed, none-placed, size_most}
+use Rattle.read_back.proofs.Lays.{filler_idle_frame, filler_long}
+use Rattle.read_back.proofs.Places.{Writes, few, answers, next_is, output_is, next_writes}
+use Rattle.read_back.proofs.Sending.{pointer_nothing, pointer_some, nothing_says, some_placed, none_placed, size_most}
 use Rattle.demands.proofs.Stream.{length_end}
 use Rattle.read_back.proofs.Written.{opened_to, sent}
 
@@ -69,8 +69,8 @@ module _ {D k o l a b n over o' l' : ℕ} (t : Turn D k o l a b n over o' l') wh
       let y : a ≤ D = omega (arith, t.of_left) in
       omega (arith, t.in_all)
 
-  comes-on : (o' ≡ k → ⊥) → l' + (k - o') + 1 ≤ l + (k - o)
-  comes-on h =
+  comes_on : (o' ≡ k → ⊥) → l' + (k - o') + 1 ≤ l + (k - o)
+  comes_on h =
       let f = full h in
       let z : over ≡ 0 = t.no_room (omega arith) in
       let w = within in
@@ -131,13 +131,13 @@ begun u w run p =
 
 -- one call
 module _ {u : SetUp} {v : ℕ} {run : List ℕ} {p : Place} (s : Writes u v run p) (w : ControlWord) (out : List ℕ) (e : length out ≡ u.length) where
-  turn-place : Turn (close_size u w) (length run) p.offset p.left_over (length (left_part (close_size u w) p.left_over))
+  turn_place : Turn (close_size u w) (length run) p.offset p.left_over (length (left_part (close_size u w) p.left_over))
       (length (run_part (close_size u w) run p.offset p.left_over)) (length (placed_part (close_size u w) run p.offset p.left_over))
       (left_after (length (placed_part (close_size u w) run p.offset p.left_over))
       (close_size u w - length (placed_part (close_size u w) run p.offset p.left_over)))
       (next_place u p w run).offset (next_place u p w run).left_over
   unfolding next_place left_over_after
-  turn-place =
+  turn_place =
       record {
         some = (laid_well u v p w run out (answers s w out e)).some;
         inside = s.inside;
@@ -155,7 +155,7 @@ module _ {u : SetUp} {v : ℕ} {run : List ℕ} {p : Place} (s : Writes u v run 
       (left_after (length (placed_part (close_size u w) run p.offset p.left_over))
       (close_size u w - length (placed_part (close_size u w) run p.offset p.left_over)))
       (next_of u v p w run out).offset (next_of u v p w run out).left_over
-  turn = rw (next-is s w out e) turn-place
+  turn = rw (next_is s w out e) turn_place
 
   carries : Octets run → word_number w < 2 ^ 32
       → Balance p.offset p.left_over (carried u (output_of u v p w run out)) (length (end_to_end (begun u w run p)))
@@ -173,9 +173,9 @@ module _ {u : SetUp} {v : ℕ} {run : List ℕ} {p : Place} (s : Writes u v run 
           × (left_after n (close_size u w - n) ≡ 0))
       go true z =
           let o = (sent s real w out e small).opens in
-          let none = none-placed s w out e z in
+          let none = none_placed s w out e z in
           inr (
-            ap (carried u) (output-is s w out e)
+            ap (carried u) (output_is s w out e)
                 ∙ carried_none u (frame_written u v p w run) (opened_to u v p w run) o (pointer_nothing (close_size u w) _ p.left_over _ z),
             (nothing_says run p.offset p.left_over z).0,
             none,
@@ -185,11 +185,11 @@ module _ {u : SetUp} {v : ℕ} {run : List ℕ} {p : Place} (s : Writes u v run 
       go false z =
           let o = (sent s real w out e small).opens in
           inl (
-            ap (carried u) (output-is s w out e)
-                ∙ carried-all u (frame_written u v p w run) (opened_to u v p w run) o
+            ap (carried u) (output_is s w out e)
+                ∙ carried_all u (frame_written u v p w run) (opened_to u v p w run) o
                 (not_idle (close_size u w) (p.left_over + distance_of run p.offset) _ (size_most u w s.fits)
                 (pointer_some (close_size u w) (distance_of run p.offset) p.left_over _ z)),
-            filler-long n (close_size u w - n) (some-placed s w out e z),
+            filler_long n (close_size u w - n) (some_placed s w out e z),
           )
 
 -- all calls
@@ -200,7 +200,7 @@ module _ {u : SetUp} {v : ℕ} {run : List ℕ} where
   stays_within [] p s f = (omega arith, s.inside)
   stays_within (c ∷ cs) p s f =
       let t = turn s c.word c.out f.0 in
-      let on = stays_within cs (next_of u v p c.word run c.out) (next-writes s c.word c.out f.0) f.2 in
+      let on = stays_within cs (next_of u v p c.word run c.out) (next_writes s c.word c.out f.0) f.2 in
       (omega (arith, t.next_offset), on.1)
 
   pub gets_there : (cs : List Writing) (p : Place) → Writes u v run p → Fair u cs → p.left_over + (length run - p.offset) ≤ length cs
@@ -210,8 +210,8 @@ module _ {u : SetUp} {v : ℕ} {run : List ℕ} where
   gets_there (c ∷ cs) p s f h =
       let t = turn s c.word c.out f.0 in
       let q = next_of u v p c.word run c.out in
-      let n = next-writes s c.word c.out f.0 in
-      go (ℕ_discrete q.offset (length run)) (λ z. let y = comes-on t z in gets_there cs q n f.2 (omega arith)) (stays_within cs q n f.2)
+      let n = next_writes s c.word c.out f.0 in
+      go (ℕ_discrete q.offset (length run)) (λ z. let y = comes_on t z in gets_there cs q n f.2 (omega arith)) (stays_within cs q n f.2)
     where
       q : Place
       q = next_of u v p c.word run c.out
@@ -223,13 +223,13 @@ module _ {u : SetUp} {v : ℕ} {run : List ℕ} where
       go (no z) on b = on z
 
   -- the octets of all calls balance
-  pub carries-all : Octets run → (cs : List Writing) (p : Place) → Writes u v run p → Fair u cs
+  pub carries_all : Octets run → (cs : List Writing) (p : Place) → Writes u v run p → Fair u cs
       → Balance p.offset p.left_over (total u (frames u v run p cs)) (length (end_to_end (fillers u v run p cs)))
       (place_after u v run p cs).offset (place_after u v run p cs).left_over
   unfolding place_after frames fillers
-  carries-all real [] p s f = (rw (total_none u) (omega arith), inl refl)
-  carries-all real (c ∷ cs) p s f =
+  carries_all real [] p s f = (rw (total_none u) (omega arith), inl refl)
+  carries_all real (c ∷ cs) p s f =
       let q = next_of u v p c.word run c.out in
       rw (total_more u (output_of u v p c.word run c.out) (frames u v run q cs), length_end (begun u c.word run p) (fillers u v run q cs))
       (both_balance _ _ q.offset q.left_over _ _ _ _ _ _ (carries s c.word c.out f.0 real f.1)
-      (carries-all real cs q (next-writes s c.word c.out f.0) f.2))
+      (carries_all real cs q (next_writes s c.word c.out f.0) f.2))

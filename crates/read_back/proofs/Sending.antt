@@ -34,13 +34,13 @@ use Rattle.writing.proofs.LayingLaws.{length_placed}
 use Rattle.read_back.specs.Demand2.{Writing, Fair, frames, fillers, filler_for, place_after}
 use Rattle.demands.specs.Sender.{Mark, Sends, inner, marks_of, marks_of_all, first_start, between}
 use Rattle.demands.specs.Sender.Sends.{packets, idle}
-use Rattle.demands.proofs.Field.{drop_exact, drop-midst}
+use Rattle.demands.proofs.Field.{drop_exact, drop_midst}
 use Rattle.read_back.proofs.Fillers.{AllIdle, idle_append, whole_append, filler_whole, filler_idle}
-use Rattle.read_back.proofs.Lays.{to_send, length_tail, filler_idle_frame, sends-long, sends-field, sends-later}
-use Rattle.read_back.proofs.Places.{Writes, few, answers, next-is, output-is, next-writes}
+use Rattle.read_back.proofs.Lays.{to_send, length_tail, filler_idle_frame, sends_long, sends_field, sends_later}
+use Rattle.read_back.proofs.Places.{Writes, few, answers, next_is, output_is, next_writes}
 use Rattle.demands.proofs.Stream.{inner_append, laid_append, length_laid, whole_left, whole_right, whole_some, pointer_is, Cut, cut_of}
 use Rattle.demands.proofs.Stream.Cut.{exact, midst}
-use Rattle.read_back.proofs.Written.{opened_to, sent, field-laid}
+use Rattle.read_back.proofs.Written.{opened_to, sent, field_laid}
 
 -- the run from an offset on: the rest of a packet, whose length the distance is, and whole packets
 record Ahead (ps : List (List ℕ)) (offset : ℕ) : Type 0 where
@@ -79,7 +79,7 @@ ahead_of ps offset w (midst ws begun left behind e k a b) =
     record {
       rest = left;
       behind = behind;
-      marks_are = ap₂ (λ (x : List (List ℕ)) (n : ℕ). drop n (marks_of_all x)) e k ∙ drop-midst ws behind begun left a;
+      marks_are = ap₂ (λ (x : List (List ℕ)) (n : ℕ). drop n (marks_of_all x)) e k ∙ drop_midst ws behind begun left a;
       whole = r.1;
       distance = ap₂ (λ (x : List (List ℕ)) (n : ℕ). distance_of (end_to_end x) n) e k
           ∙ (distance_exactly ws (begun ++ left) behind (whole_left source ws ((begun ++ left) ∷ behind) v) r.0 r.1).1 (length begun) a
@@ -164,11 +164,11 @@ at_end ps fs offset left e h = past_run ps fs offset left h ∙ rw e
 
 -- whether a call places anything
 module _ {u : SetUp} {v : ℕ} {run : List ℕ} {p : Place} (s : Writes u v run p) (w : ControlWord) (out : List ℕ) (e : length out ≡ u.length) where
-  pub some-placed : nothing_of run p.offset p.left_over ≡ false → length (placed_part (close_size u w) run p.offset p.left_over) ≡ 0 → ⊥
-  some-placed z y = false≢true (sym z ∙ (laid_well u v p w run out (answers s w out e)).nothing.1 (nothing_in _ y))
+  pub some_placed : nothing_of run p.offset p.left_over ≡ false → length (placed_part (close_size u w) run p.offset p.left_over) ≡ 0 → ⊥
+  some_placed z y = false≢true (sym z ∙ (laid_well u v p w run out (answers s w out e)).nothing.1 (nothing_in _ y))
 
-  pub none-placed : nothing_of run p.offset p.left_over ≡ true → length (placed_part (close_size u w) run p.offset p.left_over) ≡ 0
-  none-placed z = ap length ((laid_well u v p w run out (answers s w out e)).nothing.0 z)
+  pub none_placed : nothing_of run p.offset p.left_over ≡ true → length (placed_part (close_size u w) run p.offset p.left_over) ≡ 0
+  none_placed z = ap length ((laid_well u v p w run out (answers s w out e)).nothing.0 z)
 
 -- what is to be sent at a place, and at the next
 abbrev now : SetUp → List (List ℕ) → Place → ControlWord → List (List ℕ) → List Mark
@@ -186,25 +186,25 @@ later u ps p w fs =
 module _ {u : SetUp} {v : ℕ} (ps : List (List ℕ)) {p : Place} (s : Writes u v (end_to_end ps) p) (whole : AllWhole source ps)
     (real : Octets (end_to_end ps)) (w : ControlWord) (out : List ℕ) (e : length out ≡ u.length) (small : word_number w < 2 ^ 32)
     (fs fr : List (List ℕ)) (more : AllWhole source fs) where
-  step-packets : nothing_of (end_to_end ps) p.offset p.left_over ≡ false → Sends u v (after p.count.0) (later u ps p w fs) fr
+  step_packets : nothing_of (end_to_end ps) p.offset p.left_over ≡ false → Sends u v (after p.count.0) (later u ps p w fs) fr
       → Sends u v p.count.0 (now u ps p w fs) (frame_written u v p w (end_to_end ps) ∷ fr)
-  step-packets z on =
+  step_packets z on =
       let n = length (placed_part (close_size u w) (end_to_end ps) p.offset p.left_over) in
-      let some = some-placed s w out e z in
+      let some = some_placed s w out e z in
       let f = filler_for n (close_size u w - n) in
-      let long = sends-long ps p.offset p.left_over (close_size u w) (few s) s.inside some fs in
+      let long = sends_long ps p.offset p.left_over (close_size u w) (few s) s.inside some fs in
       packets p.count.0 _ (frame_written u v p w (end_to_end ps)) fr (opened_to u v p w (end_to_end ps)) (sent s real w out e small) long
-      (field-laid s real w out e small ∙ sends-field ps p.offset p.left_over (close_size u w) (few s) s.inside some fs)
+      (field_laid s real w out e small ∙ sends_field ps p.offset p.left_over (close_size u w) (few s) s.inside some fs)
       (pointer_some (close_size u w) _ p.left_over _ z
       ∙ pointer_first ps (f ++ fs) p.offset p.left_over (close_size u w) whole
       (whole_append f fs (filler_whole n (close_size u w - n) (omega (arith, size_most u w s.fits))) more) s.inside (few s) long)
-      (rw (sends-later ps p.offset p.left_over (close_size u w) (few s) s.inside some fs) on)
+      (rw (sends_later ps p.offset p.left_over (close_size u w) (few s) s.inside some fs) on)
 
-  step-idle : nothing_of (end_to_end ps) p.offset p.left_over ≡ true → Sends u v (after p.count.0) (later u ps p w fs) fr
+  step_idle : nothing_of (end_to_end ps) p.offset p.left_over ≡ true → Sends u v (after p.count.0) (later u ps p w fs) fr
       → Sends u v p.count.0 (now u ps p w fs) (frame_written u v p w (end_to_end ps) ∷ fr)
-  step-idle z on =
+  step_idle z on =
       let n = length (placed_part (close_size u w) (end_to_end ps) p.offset p.left_over) in
-      let none = none-placed s w out e z in
+      let none = none_placed s w out e z in
       let y = nothing_says (end_to_end ps) p.offset p.left_over z in
       let l = none_left (close_size u w) (end_to_end ps) p.offset p.left_over y.0 none in
       let r : p.offset + length (run_part (close_size u w) (end_to_end ps) p.offset p.left_over) ≡ length (end_to_end ps) =
@@ -220,8 +220,8 @@ module _ {u : SetUp} {v : ℕ} (ps : List (List ℕ)) {p : Place} (s : Writes u 
     where
       go : (b : Bool) → nothing_of (end_to_end ps) p.offset p.left_over ≡ b
           → Sends u v p.count.0 (now u ps p w fs) (frame_written u v p w (end_to_end ps) ∷ fr)
-      go true z = step-idle z on
-      go false z = step-packets z on
+      go true z = step_idle z on
+      go false z = step_packets z on
 
   call : Sends u v (next_of u v p w (end_to_end ps) out).count.0
       (to_send ps (next_of u v p w (end_to_end ps) out).offset (next_of u v p w (end_to_end ps) out).left_over fs) fr
@@ -229,7 +229,7 @@ module _ {u : SetUp} {v : ℕ} (ps : List (List ℕ)) {p : Place} (s : Writes u 
   unfolding next_place
   call on =
       let at : Place → Type 0 = λ q. Sends u v q.count.0 (to_send ps q.offset q.left_over fs) fr in
-      rw (output-is s w out e) (step (subst at (next-is s w out e) on))
+      rw (output_is s w out e) (step (subst at (next_is s w out e) on))
 
 -- all calls, with what is sent behind them
 pub sends : (u : SetUp) (v : ℕ) (ps : List (List ℕ)) → AllWhole source ps → Octets (end_to_end ps) → (more fr : List (List ℕ)) → AllWhole source more
@@ -244,4 +244,4 @@ sends u v ps whole real more fr w (c ∷ cs) p s f on =
     rw append_assoc
     (call ps s whole real c.word c.out f.0 f.1 (fillers u v (end_to_end ps) q cs ++ more) (frames u v (end_to_end ps) q cs ++ fr)
     (whole_append (fillers u v (end_to_end ps) q cs) more (fillers_whole u v (end_to_end ps) s.fits cs q) w)
-    (sends u v ps whole real more fr w cs q (next-writes s c.word c.out f.0) f.2 on))
+    (sends u v ps whole real more fr w cs q (next_writes s c.word c.out f.0) f.2 on))

@@ -35,12 +35,12 @@ use Rattle.walk.specs.declared.walking.End.{End}
 use Rattle.read_back.specs.Demand2.{OutputsPass, Smooth}
 use Rattle.demands.specs.History.{carried}
 use Rattle.demands.specs.Sender.{Sent, marks_of_all}
-use Rattle.demands.proofs.Calls.{count-lt, read}
+use Rattle.demands.proofs.Calls.{count_lt, read}
 use Rattle.demands.proofs.Frame.{Stand}
 use Rattle.demands.proofs.Frame.Stand.{hunting, between, gathers, skips}
-use Rattle.demands.proofs.Hears.{Reads, gap_unheard, gap_heard, unheard_hunts, not_idle, steps-idle, steps_on}
+use Rattle.demands.proofs.Hears.{Reads, gap_unheard, gap_heard, unheard_hunts, not_idle, steps_idle, steps_on}
 use Rattle.demands.proofs.Hears.Reads.{unheard, stale, live}
-use Rattle.demands.proofs.History.{Kept, Upcoming, upcoming, points-are, arrival-calls, arrival-keeps}
+use Rattle.demands.proofs.History.{Kept, Upcoming, upcoming, points_are, arrival_calls, arrival_keeps}
 use Rattle.demands.proofs.History.Upcoming.{with_packets, with_none}
 use Rattle.demands.proofs.Moves.{nothing_to_come}
 
@@ -106,9 +106,9 @@ module _ {F : Family} {limit : ℕ} {c : Channel} {part tail : List ℕ} {ps : L
       go (live a b i g o s) = gap_heard c h 0 a i l (omega arith) (g ∙ sym e)
 
   -- between packets none is under way
-  none-busy : channel_follows F limit part c ≡ true → q ≡ [] → broken_by c.state ≡ 0
+  none_busy : channel_follows F limit part c ≡ true → q ≡ [] → broken_by c.state ≡ 0
   unfolding busy_state
-  none-busy f z = go reads
+  none_busy f z = go reads
     where
       standing : Stand F limit c.state part tail ps came q behind → broken_by c.state ≡ 0
       standing (hunting e l) = rw e
@@ -130,7 +130,7 @@ module _ {F : Family} {limit : ℕ} (G : Roomy F limit)
 
   agreed : a.disagreement ≡ 0
   agreed =
-      let c = arrival-calls G w k (λ z. omega arith) out room in
+      let c = arrival_calls G w k (λ z. omega arith) out room in
       let e : c.report ≡ a = cc c.accepted in
       rw e at c.none_disagrees
 
@@ -140,19 +140,19 @@ module _ {F : Family} {limit : ℕ} (G : Roomy F limit)
       let at : ℕ → Type 0 = λ n. Reads F limit (get_or rec.channels n fresh_channel) (part_of limit n store) tail ps came k.to_come k.behind heard 0 k.count in
       subst at (sym s.channel) k.reads
 
-  gap-none : (x : Frame) (s : Sent u v k.count f x) → gap_for (channel_of x rec) x.header ≡ 0
-  gap-none x s = no_gap (reads_at x s) x.header (count-lt u f x s.opens) s.counted
+  gap_none : (x : Frame) (s : Sent u v k.count f x) → gap_for (channel_of x rec) x.header ≡ 0
+  gap_none x s = no_gap (reads_at x s) x.header (count_lt u f x s.opens) s.counted
 
-  smooth-call : (a.gap ≡ 0) × (a.broken ≡ 0)
+  smooth_call : (a.gap ≡ 0) × (a.broken ≡ 0)
   unfolding report_of
-  smooth-call = go (upcoming k.sends)
+  smooth_call = go (upcoming k.sends)
     where
       go : Upcoming u v k.count k.rest f fs → (a.gap ≡ 0) × (a.broken ≡ 0)
       go (with_packets x s i b c d) =
           let o = opened_sound u f x s.opens in
           let e = about x s in
-          let g = gap-none x s in
-          let n = not_idle x.size (length k.to_come) x.header.pointer o.most (points-are G w k x i c) in
+          let g = gap_none x s in
+          let n = not_idle x.size (length k.to_come) x.header.pointer o.most (points_are G w k x i c) in
           let part = part_of limit x.header.channel store in
           let t = steps_on F limit part (field_of x f) x.header (channel_of x rec) s.not_private n g in
           let y : (done_by F limit x rec store f).disagreement ≡ 0 = ap (λ (z : Report). z.disagreement) e ∙ agreed in (
@@ -165,10 +165,10 @@ module _ {F : Family} {limit : ℕ} (G : Roomy F limit)
           let e = about x s in
           let part = part_of limit x.header.channel store in
           let there : x.header.channel < length rec.channels = omega (arith, o.channel, k.fine.eight) in
-          let t = steps-idle F limit part (field_of x f) x.header (channel_of x rec) s.not_private i in (
-            sym (ap (λ (z : Report). z.gap) e) ∙ gap-none x s,
+          let t = steps_idle F limit part (field_of x f) x.header (channel_of x rec) s.not_private i in (
+            sym (ap (λ (z : Report). z.gap) e) ∙ gap_none x s,
             sym (ap (λ (z : Report). z.broken) e) ∙ ap (λ (z : Done). z.broken) t
-                ∙ none-busy (reads_at x s) ((each_follows F limit store rec).0 k.fine.follows x.header.channel there)
+                ∙ none_busy (reads_at x s) ((each_follows F limit store rec).0 k.fine.follows x.header.channel there)
                 (nothing_to_come k.to_come (marks_of_all k.behind) (rw k.rest_is at b)),
           )
 
@@ -178,7 +178,7 @@ pub smooth : {F : Family} {limit : ℕ} (G : Roomy F limit) {u : SetUp} {v : ℕ
 smooth G w [] outs rec store heard came k r = tt
 smooth G w (f ∷ fs) [] rec store heard came k r = tt
 smooth {F} {limit} G {u} w (f ∷ fs) (o ∷ os) rec store heard came k r = (
-  smooth-call G w k o r.0,
+  smooth_call G w k o r.0,
   smooth G w fs os (record_over F limit u rec store o f) (store_over F limit u rec store o f) true (came ++ replicate (carried u f) true)
-      (arrival-keeps G w k (λ z. omega arith) o r.0) r.1,
+      (arrival_keeps G w k (λ z. omega arith) o r.0) r.1,
 )

@@ -23,7 +23,7 @@ use Rattle.channel.proofs.Laws.{fresh_follows}
 use Rattle.reading.specs.Reading.{record_over, store_over}
 use Rattle.walk.proofs.SourceLaws.{source_roomy}
 use Rattle.writing.specs.declared.Place.{Place}
-use Rattle.writing.proofs.WritingSteps.{border-passes}
+use Rattle.writing.proofs.WritingSteps.{border_passes}
 use Rattle.read_back.specs.Demand2.{Writing, Fair, OutputsPass, fillers, frames}
 use Rattle.demands.specs.History.{Allowed, arrived_whole, wanted}
 use Rattle.demands.specs.History.Event.{arrives}
@@ -39,10 +39,10 @@ use Rattle.demands.proofs.AllOut.{wanted_append}
 use Rattle.demands.proofs.Demand3.{demand3_general, from_fresh, fresh_unheard, kept_first, together_fresh}
 use Rattle.read_back.proofs.Fillers.{AllIdle, idle_append, whole_append}
 use Rattle.demands.proofs.Frame.{none_there}
-use Rattle.demands.proofs.HandsOut.{handed-together}
+use Rattle.demands.proofs.HandsOut.{handed_together}
 use Rattle.read_back.proofs.Lays.{to_send, length_tail}
 use Rattle.read_back.proofs.Places.{Writes, few, none_refused, writes_after}
-use Rattle.read_back.proofs.Reaches.{gets_there, carries-all}
+use Rattle.read_back.proofs.Reaches.{gets_there, carries_all}
 use Rattle.read_back.proofs.Sending.{sends, past_run, fillers_whole, fillers_idle}
 use Rattle.read_back.proofs.Smooth.{smooth}
 use Rattle.demands.proofs.Stream.{laid_append, length_end}
@@ -59,7 +59,7 @@ module _ {u : SetUp} {v : ℕ} {p : Place} {r : Run} {rs : List Run} (i : Writab
         short = g.short;
         chain = (chain_exactly (run_of r)).1 (r.packets, (refl, g.whole));
         inside = omega arith;
-        border = border-passes (length (run_of r)) p.offset p.left_over i.left (inl i.start);
+        border = border_passes (length (run_of r)) p.offset p.left_over i.left (inl i.start);
         master = i.master;
         counted = i.count;
       }
@@ -102,10 +102,10 @@ behind u v p r (s ∷ rs) e on =
     rw (past_run r.packets (with_fillers u v (next_run u v p r) (s ∷ rs)) (end_of u v p r).offset (end_of u v p r).left_over e.0) on
 
 module _ (u : SetUp) (v : ℕ) where
-  none-is-refused : (rs : List Run) (p : Place) → Writable u v p rs → NoRunRefused u v p rs
-  none-is-refused [] p i = tt
-  none-is-refused (r ∷ rs) p i =
-      (none_refused r.calls p (begins i) i.good.0.fair, none-is-refused rs (next_run u v p r) (onward i))
+  none_is_refused : (rs : List Run) (p : Place) → Writable u v p rs → NoRunRefused u v p rs
+  none_is_refused [] p i = tt
+  none_is_refused (r ∷ rs) p i =
+      (none_refused r.calls p (begins i) i.good.0.fair, none_is_refused rs (next_run u v p r) (onward i))
 
   all_whole : (rs : List Run) (p : Place) → Writable u v p rs → AllWhole source (with_fillers u v p rs)
   unfolding with_fillers
@@ -114,23 +114,23 @@ module _ (u : SetUp) (v : ℕ) where
       whole_append r.packets _ i.good.0.whole
       (whole_append (fillers u v (run_of r) p r.calls) _ (fillers_whole u v (run_of r) i.fits r.calls p) (all_whole rs _ (onward i)))
 
-  all-ours : (rs : List Run) (p : Place) → wanted source (with_fillers u v p rs) ≡ wanted source (packets_of rs)
+  all_ours : (rs : List Run) (p : Place) → wanted source (with_fillers u v p rs) ≡ wanted source (packets_of rs)
   unfolding with_fillers packets_of
-  all-ours [] p = refl
-  all-ours (r ∷ rs) p =
+  all_ours [] p = refl
+  all_ours (r ∷ rs) p =
       let gs = fillers u v (run_of r) p r.calls in
       let more = with_fillers u v (next_run u v p r) rs in
       wanted_append source r.packets (gs ++ more)
       ∙ ap (λ (x : List (List ℕ)). wanted source r.packets ++ x)
       (wanted_append source gs more
-      ∙ ap₂ (λ (x y : List (List ℕ)). x ++ y) (idle_none gs (fillers_idle u v (run_of r) r.calls p)) (all-ours rs (next_run u v p r)))
+      ∙ ap₂ (λ (x y : List (List ℕ)). x ++ y) (idle_none gs (fillers_idle u v (run_of r) r.calls p)) (all_ours rs (next_run u v p r)))
       ∙ sym (wanted_append source r.packets (packets_of rs))
 
-  all-sent : (rs : List Run) (p : Place) → Writable u v p rs → AllButLastToTheEnd u v p rs
+  all_sent : (rs : List Run) (p : Place) → Writable u v p rs → AllButLastToTheEnd u v p rs
       → Sends u v p.count.0 (stream_of (tail_of p) (with_fillers u v p rs)) (frames_of u v p rs)
   unfolding with_fillers frames_of stream_of
-  all-sent [] p i e = no_more _ _
-  all-sent (r ∷ rs) p i e =
+  all_sent [] p i e = no_more _ _
+  all_sent (r ∷ rs) p i e =
       let g = i.good.0 in
       let next = next_run u v p r in
       let gs = fillers u v (run_of r) p r.calls in
@@ -139,7 +139,7 @@ module _ (u : SetUp) (v : ℕ) where
       let at : ℕ → Type 0 = λ n. Sends u v p.count.0 (to_send r.packets n p.left_over (gs ++ more)) fs in
       let t : at p.offset =
       sends u v r.packets g.whole g.real more (frames_of u v next rs) (all_whole rs next (onward i)) r.calls p (begins i) g.fair
-      (behind u v p r rs e (all-sent rs next (onward i) (ends_onward u v p r rs e))) in
+      (behind u v p r rs e (all_sent rs next (onward i) (ends_onward u v p r rs e))) in
       rw (laid_append r.packets (gs ++ more)) (subst at i.start t)
 
 -- how far the frames of the runs carry: a run ps with its fillers gs, from l octets left over to l', and then more
@@ -156,19 +156,19 @@ carry_run ps gs more l l' T T' w i b (inl z) (only_idle j) =
 carry_run ps gs more l l' T T' w i b (inr z) (only_idle j) = as_far ps (gs ++ more) refl (idle_append gs more i j) (omega arith)
 
 module _ (u : SetUp) (v : ℕ) where
-  carried-to-the-end : (rs : List Run) (p : Place) → Writable u v p rs → AllToTheEnd u v p rs
+  carried_to_the_end : (rs : List Run) (p : Place) → Writable u v p rs → AllToTheEnd u v p rs
       → Carries p.left_over (total u (frames_of u v p rs)) (with_fillers u v p rs)
   unfolding with_fillers frames_of
-  carried-to-the-end [] p i e = only_idle tt
-  carried-to-the-end (r ∷ rs) p i e =
+  carried_to_the_end [] p i e = only_idle tt
+  carried_to_the_end (r ∷ rs) p i e =
       let g = i.good.0 in
-      let c = carries-all g.real r.calls p (begins i) g.fair in
+      let c = carries_all g.real r.calls p (begins i) g.fair in
       let o = i.start in
       let at_end = e.0 in
       rw (total_append u (frames u v (run_of r) p r.calls) (frames_of u v (next_run u v p r) rs))
       (carry_run r.packets (fillers u v (run_of r) p r.calls) (with_fillers u v (next_run u v p r) rs) p.left_over (end_of u v p r).left_over _ _
       g.whole (fillers_idle u v (run_of r) r.calls p) (omega arith) (go c.1 o at_end)
-      (carried-to-the-end rs (next_run u v p r) (onward i) e.1))
+      (carried_to_the_end rs (next_run u v p r) (onward i) e.1))
     where
       go : {m n k l g : ℕ} → (m ≡ n) ⊎ (l ≤ g) → n ≡ 0 → m ≡ k → (k ≡ 0) ⊎ (l ≤ g)
       go (inl z) o e = inl (omega arith)
@@ -177,7 +177,7 @@ module _ (u : SetUp) (v : ℕ) where
 -- no call is refused, and the frames are the sender's
 pub runs_send : RunsSend
 runs_send u v p rs i e =
-    record { written = none-is-refused u v rs p i; sent = all-sent u v rs p i e; whole = all_whole u v rs p i; ours = all-ours u v rs p }
+    record { written = none_is_refused u v rs p i; sent = all_sent u v rs p i e; whole = all_whole u v rs p i; ours = all_ours u v rs p }
 
 -- one run
 abbrev pub one_run : List (List ℕ) → List Writing → List Run
@@ -198,13 +198,13 @@ one_writable u v ps p cs fits channel w real short start left master count fair 
     }
 
 module _ (u : SetUp) (v : ℕ) (ps : List (List ℕ)) (p : Place) (cs : List Writing) where
-  pub one-frames : frames_of u v p (one_run ps cs) ≡ frames u v (end_to_end ps) p cs
+  pub one_frames : frames_of u v p (one_run ps cs) ≡ frames u v (end_to_end ps) p cs
   unfolding frames_of
-  one-frames = append-nil (frames u v (end_to_end ps) p cs)
+  one_frames = append-nil (frames u v (end_to_end ps) p cs)
 
-  pub one-filled : with_fillers u v p (one_run ps cs) ≡ ps ++ fillers u v (end_to_end ps) p cs
+  pub one_filled : with_fillers u v p (one_run ps cs) ≡ ps ++ fillers u v (end_to_end ps) p cs
   unfolding with_fillers
-  one-filled = ap (λ (x : List (List ℕ)). ps ++ x) (append-nil (fillers u v (end_to_end ps) p cs))
+  one_filled = ap (λ (x : List (List ℕ)). ps ++ x) (append-nil (fillers u v (end_to_end ps) p cs))
 
 pub one_packets : (ps : List (List ℕ)) (cs : List Writing) → packets_of (one_run ps cs) ≡ ps
 unfolding packets_of
@@ -213,7 +213,7 @@ one_packets ps cs = append-nil ps
 pub writer_sends : WriterSends
 writer_sends u v ps p cs fits channel w real short start left master count fair =
     let s = runs_send u v p (one_run ps cs) (one_writable u v ps p cs fits channel w real short start left master count fair) tt in
-    (s.written.0, rw (one-filled u v ps p cs) at s.whole, rw (one-filled u v ps p cs, one-frames u v ps p cs) at s.sent)
+    (s.written.0, rw (one_filled u v ps p cs) at s.whole, rw (one_filled u v ps p cs, one_frames u v ps p cs) at s.sent)
 
 -- where every frame arrives, the history keeps to the conditions of demand 3
 all_arrive : (limit : ℕ) (u : SetUp) (v : ℕ) (fs outs : List (List ℕ)) (rec : Record) (store : List ℕ) (heard : Bool) → length outs ≡ length fs
@@ -238,10 +238,10 @@ runs_read_back_general limit G u v p rs store outs i ends whole octets many room
       read_back = d;
       smooth = smooth G s.whole fs outs fresh_record store false [] k roomy;
       all_out = λ e.
-          handed-together source source_lawful limit u (tail_of p) ps s.whole fs fresh_record store (map arrives outs) d
+          handed_together source source_lawful limit u (tail_of p) ps s.whole fs fresh_record store (map arrives outs) d
           ∙ ap (λ (x : List Bool). wanted source (arrived_whole limit x (length (tail_of p)) ps)) (came_all u fs outs 0 many)
           ∙ ap₂ (λ (m n : ℕ). wanted source (arrived_whole limit (replicate m true) n ps)) (zero-add (total u fs)) (length_tail p.left_over i.left)
-          ∙ all_carried limit (carried-to-the-end u v rs p i e) ∙ fitting_same limit ps (packets_of rs) s.ours;
+          ∙ all_carried limit (carried_to_the_end u v rs p i e) ∙ fitting_same limit ps (packets_of rs) s.ours;
     }
 
 pub runs_read_back : RunsReadBack

@@ -107,5 +107,5 @@ module _ {u : SetUp} {v : ℕ} {run : List ℕ} {p : Place} (s : Writes u v run 
         counted = refl;
       }
 
-  pub field-laid : reading.field_of (opened_to u v p w run) (frame_written u v p w run) ≡ laid_field u w run p
-  field-laid = (written_opens u v p w run out (answers s w out e) s.master s.counted small).1
+  pub field_laid : reading.field_of (opened_to u v p w run) (frame_written u v p w run) ≡ laid_field u w run p
+  field_laid = (written_opens u v p w run out (answers s w out e) s.master s.counted small).1

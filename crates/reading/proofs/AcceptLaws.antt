@@ -52,15 +52,15 @@ part_back limit v at store part e =
     rw (drop-drop, n, e) (sym (append_assoc (take (part_place limit v) store) part (drop (part_place limit v + limit) store)))
 
 module _ {F : Family} {limit : ℕ} (rec : Record) (x : Frame) (f store out : List ℕ) (r : Ready F limit rec x f store out) where
-  pub field-length : length (field_of x f) ≡ x.size
-  field-length = simp (length-take, length-drop) (omega (arith, r.inside))
+  pub field_length : length (field_of x f) ≡ x.size
+  field_length = simp (length-take, length-drop) (omega (arith, r.inside))
 
-  pub part-whole : length (part_of limit x.header.channel store) ≡ limit
-  part-whole = part_inside limit x.header.channel store r.store_whole r.channel
+  pub part_whole : length (part_of limit x.header.channel store) ≡ limit
+  part_whole = part_inside limit x.header.channel store r.store_whole r.channel
 
   module _ (at : ℕ) (e : at ≡ part_place limit x.header.channel) where
-    pub follows-cut : channel_follows F limit (take (at + limit - at) (drop at store)) (channel_of x rec) ≡ true
-    follows-cut = rw (cut_part limit x.header.channel at store e) (own_follows F limit store rec x.header.channel r.follows)
+    pub follows_cut : channel_follows F limit (take (at + limit - at) (drop at store)) (channel_of x rec) ≡ true
+    follows_cut = rw (cut_part limit x.header.channel at store e) (own_follows F limit store rec x.header.channel r.follows)
 
     -- what the steps did over the channel's part is what the call does
     pub read_by : (gap : ℕ) (kind : Kind) (course : Course) (part' out' : List ℕ) → gap ≡ gap_for (channel_of x rec) x.header
@@ -97,13 +97,13 @@ module _ (rec : Record) (x : Frame) (f store out : List ℕ) (r : Ready source m
   fits : x.header.synchronisation ≡ false → Fit most (part_of most x.header.channel store) (field_of x f) x.header.pointer out
   fits s =
       record {
-        whole_part = part-whole rec x f store out r;
+        whole_part = part_whole rec x f store out r;
         wide = omega arith;
         not_too_wide = omega arith;
-        some = rw (field-length rec x f store out r) r.some;
-        few = rw (field-length rec x f store out r) r.few;
+        some = rw (field_length rec x f store out r) r.some;
+        few = rw (field_length rec x f store out r) r.few;
         room = r.output_room;
-        points = rw (field-length rec x f store out r) (r.points s);
+        points = rw (field_length rec x f store out r) (r.points s);
       }
 
   module _ (at : ℕ) (e : at ≡ part_place most x.header.channel) where

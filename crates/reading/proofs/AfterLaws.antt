@@ -26,89 +26,89 @@ use Rattle.reading.specs.declared.Report.{Report}
 use Rattle.walk.specs.Steps.{course_of}
 use Rattle.walk.specs.Walk.{Done, no_tally, handed_all, tallied_all}
 use Rattle.reading.specs.Theorems.{skip_ended}
-use Rattle.reading.proofs.AcceptLaws.{own_follows, field-length, part-whole}
-use Rattle.walk.proofs.FewLaws.{counted, steps-few}
-use Rattle.walk.proofs.KeepLaws.{LeavesBy, state_follows, steps-leave}
+use Rattle.reading.proofs.AcceptLaws.{own_follows, field_length, part_whole}
+use Rattle.walk.proofs.FewLaws.{counted, steps_few}
+use Rattle.walk.proofs.KeepLaws.{LeavesBy, state_follows, steps_leave}
 use Rattle.octets.proofs.OctetLaws.{octets_take, octets_drop, octets_laid}
 use Rattle.walk.proofs.OctetLaws.{octets_part, octets_with}
 
 module _ (F : Family) (laws : Lawful F) (limit : ℕ) (rec : Record) (x : Frame) (f store out : List ℕ) (r : Ready F limit rec x f store out) where
-  own-channel : channel_follows F limit (part_of limit x.header.channel store) (channel_of x rec) ≡ true
-  own-channel = own_follows F limit store rec x.header.channel r.follows
+  own_channel : channel_follows F limit (part_of limit x.header.channel store) (channel_of x rec) ≡ true
+  own_channel = own_follows F limit store rec x.header.channel r.follows
 
-  pub done-few : let a : Report = report_of F x (channel_of x rec) (done_by F limit x rec store f) in
+  pub done_few : let a : Report = report_of F x (channel_of x rec) (done_by F limit x rec store f) in
       F.least * (a.delivered + a.idle + skip_ended x rec) < x.size + F.least
   unfolding report_of course_of
-  done-few =
+  done_few =
       let d : Done = done_by F limit x rec store f in
       let many : (tallied_all F no_tally d.whole).delivered + (tallied_all F no_tally d.whole).idle ≡ length d.whole =
       counted F no_tally d.whole ∙ zero-add (length d.whole) in
-      let few = steps-few F laws limit (part_of limit x.header.channel store) (field_of x f) (part-whole rec x f store out r) x.header
-      (channel_of x rec) (state_follows F limit _ (channel_of x rec) own-channel) in
-      rw many (rw (field-length rec x f store out r) at few)
+      let few = steps_few F laws limit (part_of limit x.header.channel store) (field_of x f) (part_whole rec x f store out r) x.header
+      (channel_of x rec) (state_follows F limit _ (channel_of x rec) own_channel) in
+      rw many (rw (field_length rec x f store out r) at few)
 
 module _ (F : Family) (laws : Lawful F) (limit : ℕ) (wide : F.header + most_field ≤ limit) (rec : Record) (x : Frame) (f store out : List ℕ)
     (r : Ready F limit rec x f store out) where
-  done-leaves : (O : Type 0) → (O → Octets store) → (O → Octets f) → LeavesBy F limit O (length out) (done_by F limit x rec store f)
-  done-leaves O os of =
-      let l = field-length rec x f store out r in
-      steps-leave F laws limit O (length out) (omega (arith, wide)) (part_of limit x.header.channel store) (field_of x f) (part-whole rec x f store out r)
+  done_leaves : (O : Type 0) → (O → Octets store) → (O → Octets f) → LeavesBy F limit O (length out) (done_by F limit x rec store f)
+  done_leaves O os of =
+      let l = field_length rec x f store out r in
+      steps_leave F laws limit O (length out) (omega (arith, wide)) (part_of limit x.header.channel store) (field_of x f) (part_whole rec x f store out r)
       (omega (arith, r.few, wide)) (omega (arith, r.few, r.output_room))
       (λ o. octets_part limit x.header.channel store (os o))
       (λ o. octets_take (drop x.place f) x.size (octets_drop f x.place (of o)))
-      x.header (channel_of x rec) (own-channel F laws limit rec x f store out r)
+      x.header (channel_of x rec) (own_channel F laws limit rec x f store out r)
 
   -- without anything known of the octets
   fits : LeavesBy F limit ⊥ (length out) (done_by F limit x rec store f)
-  fits = done-leaves ⊥ (λ z. absurd z) (λ z. absurd z)
+  fits = done_leaves ⊥ (λ z. absurd z) (λ z. absurd z)
 
   part_left : length (laid (part_of limit x.header.channel store) 0 (done_by F limit x rec store f).held) ≡ limit
   part_left =
-      let w = part-whole rec x f store out r in
+      let w = part_whole rec x f store out r in
       length_laid _ 0 (done_by F limit x rec store f).held (omega (arith, fits.short)) ∙ w
 
   pub store_kept : length (store_after limit x store (done_by F limit x rec store f)) ≡ length store
   unfolding store_after
   store_kept = part_length limit x.header.channel store _ r.store_whole r.channel part_left ∙ sym r.store_whole
 
-  pub output-kept : length (output_after F out (done_by F limit x rec store f)) ≡ length out
+  pub output_kept : length (output_after F out (done_by F limit x rec store f)) ≡ length out
   unfolding output_after
-  output-kept = length_laid out 0 (handed_all F (done_by F limit x rec store f).whole) (omega (arith, fits.hands))
+  output_kept = length_laid out 0 (handed_all F (done_by F limit x rec store f).whole) (omega (arith, fits.hands))
 
-  pub channels-kept : length (record_after x rec (done_by F limit x rec store f)).channels ≡ length rec.channels
+  pub channels_kept : length (record_after x rec (done_by F limit x rec store f)).channels ≡ length rec.channels
   unfolding record_after
-  channels-kept = simp length-set
+  channels_kept = simp length-set
 
-  pub other-part : (w : ℕ) → w < 8 → (w ≡ x.header.channel → ⊥) → part_of limit w (store_after limit x store (done_by F limit x rec store f)) ≡ part_of limit w store
+  pub other_part : (w : ℕ) → w < 8 → (w ≡ x.header.channel → ⊥) → part_of limit w (store_after limit x store (done_by F limit x rec store f)) ≡ part_of limit w store
   unfolding store_after
-  other-part w h n =
+  other_part w h n =
       part_apart limit x.header.channel w store _ r.store_whole r.channel h part_left (λ e. n (sym e))
 
-  pub other-channel : (w : ℕ) → (w ≡ x.header.channel → ⊥)
+  pub other_channel : (w : ℕ) → (w ≡ x.header.channel → ⊥)
       → get_or (record_after x rec (done_by F limit x rec store f)).channels w fresh_channel ≡ get_or rec.channels w fresh_channel
   unfolding record_after
-  other-channel w n = get_or-set_other rec.channels x.header.channel w _ fresh_channel n
+  other_channel w n = get_or-set_other rec.channels x.header.channel w _ fresh_channel n
 
-  pub octets-kept : Octets store → Octets f → Octets (store_after limit x store (done_by F limit x rec store f))
+  pub octets_kept : Octets store → Octets f → Octets (store_after limit x store (done_by F limit x rec store f))
   unfolding store_after
-  octets-kept os of =
+  octets_kept os of =
       let held = (done_by F limit x rec store f).held in
       octets_with limit x.header.channel store (laid (part_of limit x.header.channel store) 0 held) os
       (octets_laid (part_of limit x.header.channel store) 0 held (octets_part limit x.header.channel store os)
-      ((done-leaves (Unit {0}) (λ _. os) (λ _. of)).octets tt))
+      ((done_leaves (Unit {0}) (λ _. os) (λ _. of)).octets tt))
 
   -- the rules of the record: of the frame's own channel by what its steps leave, of every other as they were
   module _ (os : Octets store) (of : Octets f) (eight : length rec.channels ≡ 8) where
-    own-kept : channel_follows F limit (part_of limit x.header.channel (store_after limit x store (done_by F limit x rec store f)))
+    own_kept : channel_follows F limit (part_of limit x.header.channel (store_after limit x store (done_by F limit x rec store f)))
         (get_or (record_after x rec (done_by F limit x rec store f)).channels x.header.channel fresh_channel) ≡ true
     unfolding store_after record_after channel_follows
-    own-kept =
+    own_kept =
         let there : x.header.channel < length rec.channels = omega (arith, r.channel) in
         rw (
           part_own limit x.header.channel store _ r.store_whole r.channel part_left,
           get_or-set_same rec.channels x.header.channel _ fresh_channel there,
         )
-        ((done-leaves (Unit {0}) (λ _. os) (λ _. of)).keeps (part_of limit x.header.channel store) tt)
+        ((done_leaves (Unit {0}) (λ _. os) (λ _. of)).keeps (part_of limit x.header.channel store) tt)
 
     pub record_kept : record_follows F limit (store_after limit x store (done_by F limit x rec store f)) (record_after x rec (done_by F limit x rec store f)) ≡ true
     unfolding record_after
@@ -117,5 +117,5 @@ module _ (F : Family) (laws : Lawful F) (limit : ℕ) (wide : F.header + most_fi
         go : (w : ℕ) → Dec (w ≡ x.header.channel) → w < length rec.channels
             → channel_follows F limit (part_of limit w (store_after limit x store (done_by F limit x rec store f)))
             (get_or (record_after x rec (done_by F limit x rec store f)).channels w fresh_channel) ≡ true
-        go w (yes e) h = rw e own-kept
-        go w (no n) h = rw (other-part w (omega (arith, eight)) n, other-channel w n) ((each_follows F limit store rec).0 r.follows w h)
+        go w (yes e) h = rw e own_kept
+        go w (no n) h = rw (other_part w (omega (arith, eight)) n, other_channel w n) ((each_follows F limit store rec).0 r.follows w h)

@@ -18,7 +18,7 @@ use Rattle.frame.specs.declared.opening.Refusal.TheVariants.{SetUpRange, FrameLe
 use Rattle.frame.specs.declared.opening.Frame.{Frame}
 use Rattle.frame.specs.declared.set_up.SetUp.{SetUp}
 use Rattle.frame.proofs.NumberLaws.{number_one as frame-number-one}
-use Rattle.table.proofs.Laws.{first-exactly, made}
+use Rattle.table.proofs.Laws.{first_exactly, made}
 use Rattle.channel.specs.State.{fresh_channel}
 use Rattle.channel.specs.declared.state.Channel.{Channel}
 use Rattle.channel.specs.declared.state.Record.{Record}
@@ -33,8 +33,8 @@ use Rattle.reading.specs.Reading.{read_table_over, channel_of, done_by, report_o
 use Rattle.reading.specs.Theorems.{NumberExactly, RefusedZero, AcceptedValues, ValuesTwenty, AcceptedExactly, RefusedUntouched, AcceptedKeeps, OthersApart, HeardInWordsLaw, HeardInWords, FewEnoughLaw}
 use Rattle.walk.specs.Theorems.{Roomy}
 use Rattle.walk.specs.Walk.{Done}
-use Rattle.reading.proofs.AfterLaws.{store_kept, output-kept, channels-kept, octets-kept, other-part, other-channel, record_kept, done-few}
-use Rattle.reading.proofs.ReadLaws.{LeftBy, found_none, found-cause, leaves, ready, refuses}
+use Rattle.reading.proofs.AfterLaws.{store_kept, output_kept, channels_kept, octets_kept, other_part, other_channel, record_kept, done_few}
+use Rattle.reading.proofs.ReadLaws.{LeftBy, found_none, found_cause, leaves, ready, refuses}
 
 -- a number tells its refusal: the reader's own numbers are none of the frame part's
 abbrev own : ℕ → Refusal → Refusal
@@ -73,7 +73,7 @@ pub number_exactly : (F : Family) (limit : ℕ) → NumberExactly F limit
 unfolding answer_over values_of
 number_exactly F limit u rec store out f r =
     rw (made first_value Refused _ (read_table_over F limit u rec store out f))
-    (first-exactly number_of 0 number_one (λ r e. omega (arith, (case_own r).1)) (read_table_over F limit u rec store out f) r)
+    (first_exactly number_of 0 number_one (λ r e. omega (arith, (case_own r).1)) (read_table_over F limit u rec store out f) r)
 
 pub accepted_exactly : (F : Family) (limit : ℕ) → AcceptedExactly F limit
 accepted_exactly F limit u rec store out f =
@@ -81,7 +81,7 @@ accepted_exactly F limit u rec store out f =
 
 pub refused_untouched : (F : Family) (limit : ℕ) → RefusedUntouched F limit
 refused_untouched F limit u rec store out f r e =
-    let l = refuses F limit u rec store out f r _ (found-cause F limit u rec store out f r e) refl in
+    let l = refuses F limit u rec store out f r _ (found_cause F limit u rec store out f r e) refl in
     record { same_record = sym l.record_left; same_store = sym l.store_left; same_output = sym l.output_left }
 
 -- a call that was accepted: what its steps could rely on, what they left, and its answer
@@ -102,9 +102,9 @@ accepted_keeps F limit sound u rec store out f a os of eight e =
     let l = left F limit u rec store out f a e in
     record {
       follows = rw (← l.store_left, ← l.record_left) (record_kept F sound.laws limit sound.wide rec x f store out r os of eight);
-      eight = rw (← l.record_left) (channels-kept F sound.laws limit sound.wide rec x f store out r ∙ eight);
+      eight = rw (← l.record_left) (channels_kept F sound.laws limit sound.wide rec x f store out r ∙ eight);
       store_length = rw (← l.store_left) (store_kept F sound.laws limit sound.wide rec x f store out r);
-      output_length = rw (← l.output_left) (output-kept F sound.laws limit sound.wide rec x f store out r);
+      output_length = rw (← l.output_left) (output_kept F sound.laws limit sound.wide rec x f store out r);
     }
 
 -- and the store stays a store of octets, whatever the answer
@@ -115,7 +115,7 @@ store_octets F limit sound u rec store out f os of = go (answer_over F limit u r
     go : (a : Answer) → answer_over F limit u rec store out f ≡ a → Octets (store_over F limit u rec store out f)
     go (Refused r) e = rw (refused_untouched F limit u rec store out f r e).same_store os
     go (Accepted a) e =
-        rw (← (left F limit u rec store out f a e).store_left) (octets-kept F sound.laws limit sound.wide rec (frame_of u f) f store out (relied F limit u rec store out f a e) os of)
+        rw (← (left F limit u rec store out f a e).store_left) (octets_kept F sound.laws limit sound.wide rec (frame_of u f) f store out (relied F limit u rec store out f a e) os of)
 
 pub others_apart : (F : Family) (limit : ℕ) → OthersApart F limit
 unfolding report_of
@@ -125,8 +125,8 @@ others_apart F limit sound u rec store out f a w e h n =
     let l = left F limit u rec store out f a e in
     let other : w ≡ x.header.channel → ⊥ = λ q. n (q ∙ ap (λ (b : Report). b.header.channel) (told F limit u rec store out f a e)) in
     record {
-      channel_kept = rw (← l.record_left) (other-channel F sound.laws limit sound.wide rec x f store out r w other);
-      part_kept = rw (← l.store_left) (other-part F sound.laws limit sound.wide rec x f store out r w h other);
+      channel_kept = rw (← l.record_left) (other_channel F sound.laws limit sound.wide rec x f store out r w other);
+      part_kept = rw (← l.store_left) (other_part F sound.laws limit sound.wide rec x f store out r w h other);
     }
 
 -- the frame's channel is made anew, and no other
@@ -152,7 +152,7 @@ heard_in_words F limit u rec store out f a eight e =
 
 pub few_enough : (F : Family) (limit : ℕ) → FewEnoughLaw F limit
 few_enough F limit laws u rec store out f a e =
-    rw (told F limit u rec store out f a e) at (done-few F laws limit rec (frame_of u f) f store out (relied F limit u rec store out f a e))
+    rw (told F limit u rec store out f a e) at (done_few F laws limit rec (frame_of u f) f store out (relied F limit u rec store out f a e))
 
 pub refused_zero : (F : Family) (limit : ℕ) → RefusedZero F limit
 unfolding values_of

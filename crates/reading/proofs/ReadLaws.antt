@@ -19,7 +19,7 @@ use Rattle.frame.specs.declared.opening.Refusal.{Refusal as FrameRefusal}
 use Rattle.frame.specs.declared.opening.Refusal.TheVariants.{SetUpRange}
 use Rattle.frame.specs.declared.set_up.SetUp.{SetUp}
 use Rattle.frame.proofs.Laws.{row1_fits, frame_refused, frame_accepted, opened_sound}
-use Rattle.table.proofs.Laws.{first_gives, none-gives, first-exactly, none-exactly}
+use Rattle.table.proofs.Laws.{first_gives, none_gives, first_exactly, none_exactly}
 use Rattle.channel.specs.Rules.{record_follows}
 use Rattle.channel.specs.Store.{store_fits, output_fits}
 use Rattle.channel.specs.declared.state.Record.{Record}
@@ -35,17 +35,17 @@ use Rattle.reading.specs.Reading.{kind_of, of_frame, read_table_over, channel_of
 
 -- the kind of a frame
 module _ (h : Header) where
-  pub kind-private : h.synchronisation ≡ true → Private ≡ kind_of h
+  pub kind_private : h.synchronisation ≡ true → Private ≡ kind_of h
   unfolding kind_of
-  kind-private a = rw a
+  kind_private a = rw a
 
-  pub kind-idle : h.synchronisation ≡ false → h.pointer ≡ idle_data → Idle ≡ kind_of h
+  pub kind_idle : h.synchronisation ≡ false → h.pointer ≡ idle_data → Idle ≡ kind_of h
   unfolding kind_of
-  kind-idle a b = rw (a, eq-eqb h.pointer idle_data b)
+  kind_idle a b = rw (a, eq-eqb h.pointer idle_data b)
 
-  pub kind-packets : h.synchronisation ≡ false → (h.pointer ≡ idle_data → ⊥) → Packets ≡ kind_of h
+  pub kind_packets : h.synchronisation ≡ false → (h.pointer ≡ idle_data → ⊥) → Packets ≡ kind_of h
   unfolding kind_of
-  kind-packets a b = rw (a, ne_eqb h.pointer idle_data b)
+  kind_packets a b = rw (a, ne_eqb h.pointer idle_data b)
 
 -- the frame part's rows, as rows of the reader's table
 first_up : (rows : List (Row FrameRefusal)) (r : FrameRefusal) → First rows r → First (map of_frame rows) (OfFrame r)
@@ -68,9 +68,9 @@ whole_store limit n e = eqb-true n (limit * 8) e
 
 -- the first cause, row by row, as the code tests them
 module _ (F : Family) (limit : ℕ) (u : SetUp) (rec : Record) (store out f : List ℕ) where
-  pub at-set-up : fits_of u ≡ false → First (read_table_over F limit u rec store out f) (OfFrame SetUpRange)
+  pub at_set_up : fits_of u ≡ false → First (read_table_over F limit u rec store out f) (OfFrame SetUpRange)
   unfolding read_table_over
-  at-set-up a = inl (refl, (row1_fits u).0.1 a)
+  at_set_up a = inl (refl, (row1_fits u).0.1 a)
 
   module _ (a : fits_of u ≡ true) where
     pub at_store : store_fits limit (length store) ≡ false → First (read_table_over F limit u rec store out f) StoreLength
@@ -78,19 +78,19 @@ module _ (F : Family) (limit : ℕ) (u : SetUp) (rec : Record) (store out f : Li
     at_store b = inr ((row1_fits u).1.1 a, inl (refl, rw b))
 
     module _ (b : store_fits limit (length store) ≡ true) where
-      pub at-output : output_fits limit (length out) ≡ false → First (read_table_over F limit u rec store out f) OutputLength
+      pub at_output : output_fits limit (length out) ≡ false → First (read_table_over F limit u rec store out f) OutputLength
       unfolding read_table_over
-      at-output c = inr ((row1_fits u).1.1 a, inr (rw b, inl (refl, rw c)))
+      at_output c = inr ((row1_fits u).1.1 a, inr (rw b, inl (refl, rw c)))
 
       module _ (c : output_fits limit (length out) ≡ true) where
-        pub at-record : record_follows F limit store rec ≡ false → First (read_table_over F limit u rec store out f) BrokenRecord
+        pub at_record : record_follows F limit store rec ≡ false → First (read_table_over F limit u rec store out f) BrokenRecord
         unfolding read_table_over
-        at-record d = inr ((row1_fits u).1.1 a, inr (rw b, inr (rw c, inl (refl, rw d))))
+        at_record d = inr ((row1_fits u).1.1 a, inr (rw b, inr (rw c, inl (refl, rw d))))
 
         module _ (d : record_follows F limit store rec ≡ true) where
-          pub at-frame : (r : FrameRefusal) → open_of u f ≡ Opened.Refused r → First (read_table_over F limit u rec store out f) (OfFrame r)
+          pub at_frame : (r : FrameRefusal) → open_of u f ≡ Opened.Refused r → First (read_table_over F limit u rec store out f) (OfFrame r)
           unfolding read_table_over
-          at-frame r e = inr ((row1_fits u).1.1 a, inr (rw b, inr (rw c, inr (rw d, first_up (frame_table u f) r ((frame_refused u f r a).0 e)))))
+          at_frame r e = inr ((row1_fits u).1.1 a, inr (rw b, inr (rw c, inr (rw d, first_up (frame_table u f) r ((frame_refused u f r a).0 e)))))
 
           pub at_none : (x : Frame) → open_of u f ≡ Opened.Accepted x → (x ≡ frame_of u f) × None (read_table_over F limit u rec store out f)
           unfolding read_table_over
@@ -116,13 +116,13 @@ module _ (F : Family) (limit : ℕ) (u : SetUp) (rec : Record) (store out f : Li
   opened n = (frame_accepted u f (frame_of u f)).1 (refl, (row1_fits u).1.0 n.0, none_down (frame_table u f) n.1.1.1.1)
 
   -- a call that is refused found a cause, and one that is accepted found none
-  pub found-cause : (r : Refusal) → answer_over F limit u rec store out f ≡ Refused r → First (read_table_over F limit u rec store out f) r
+  pub found_cause : (r : Refusal) → answer_over F limit u rec store out f ≡ Refused r → First (read_table_over F limit u rec store out f) r
   unfolding answer_over
-  found-cause r e = (first-exactly Refused _ (λ s r q. cc) (λ r. accepted_refused _ r) (read_table_over F limit u rec store out f) r).0 e
+  found_cause r e = (first_exactly Refused _ (λ s r q. cc) (λ r. accepted_refused _ r) (read_table_over F limit u rec store out f) r).0 e
 
   pub found_none : (a : Report) → answer_over F limit u rec store out f ≡ Accepted a → None (read_table_over F limit u rec store out f)
   unfolding answer_over
-  found_none a e = ((none-exactly Refused _ (Accepted a) (λ r q. accepted_refused a r (sym q)) (read_table_over F limit u rec store out f)).0 e).1
+  found_none a e = ((none_exactly Refused _ (Accepted a) (λ r q. accepted_refused a r (sym q)) (read_table_over F limit u rec store out f)).0 e).1
 
   -- a refusal answers its case, and leaves record, store and output
   pub refuses : (r : Refusal) (o : Outcome) → First (read_table_over F limit u rec store out f) r → o ≡ record { answer = Refused r; after = rec }
@@ -144,10 +144,10 @@ module _ (F : Family) (limit : ℕ) (u : SetUp) (rec : Record) (store out f : Li
     accepts answer rec' store' out' b =
         let t = rw n.0 at b in
         record {
-          answers = t.answers ∙ sym (none-gives Refused _ (read_table_over F limit u rec store out f) n.1);
-          record_left = t.record_left ∙ sym (none-gives (λ _. rec) _ (read_table_over F limit u rec store out f) n.1);
-          store_left = t.store_left ∙ sym (none-gives (λ _. store) _ (read_table_over F limit u rec store out f) n.1);
-          output_left = t.output_left ∙ sym (none-gives (λ _. out) _ (read_table_over F limit u rec store out f) n.1);
+          answers = t.answers ∙ sym (none_gives Refused _ (read_table_over F limit u rec store out f) n.1);
+          record_left = t.record_left ∙ sym (none_gives (λ _. rec) _ (read_table_over F limit u rec store out f) n.1);
+          store_left = t.store_left ∙ sym (none_gives (λ _. store) _ (read_table_over F limit u rec store out f) n.1);
+          output_left = t.output_left ∙ sym (none_gives (λ _. out) _ (read_table_over F limit u rec store out f) n.1);
         }
 
     -- and what those may rely on

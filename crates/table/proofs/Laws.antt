@@ -35,24 +35,24 @@ module _ {R A : Type 0} (refused : R → A) (accepted : A) where
   first_gives (a ∷ rows) r (inl h) = here refused accepted a.case rows h.1 ∙ ap refused h.0
   first_gives (a ∷ rows) r (inr h) = next refused accepted a.case rows h.0 ∙ first_gives rows r h.1
 
-  pub none-gives : NoneGives refused accepted
+  pub none_gives : NoneGives refused accepted
   unfolding first_cause
-  none-gives [] n = refl
-  none-gives (a ∷ rows) n = next refused accepted a.case rows n.0 ∙ none-gives rows n.1
+  none_gives [] n = refl
+  none_gives (a ∷ rows) n = next refused accepted a.case rows n.0 ∙ none_gives rows n.1
 
-  pub first-exactly : FirstExactly refused accepted
-  first-exactly one other rows r = (by (found rows), first_gives rows r)
+  pub first_exactly : FirstExactly refused accepted
+  first_exactly one other rows r = (by (found rows), first_gives rows r)
     where
       by : ((s : R) × First rows s) ⊎ None rows → first_cause rows refused accepted ≡ refused r → First rows r
       by (inl f) e = subst (First rows) (one f.0 r (sym (first_gives rows f.0 f.1) ∙ e)) f.1
-      by (inr n) e = absurd (other r (sym (none-gives rows n) ∙ e))
+      by (inr n) e = absurd (other r (sym (none_gives rows n) ∙ e))
 
-  pub none-exactly : NoneExactly refused accepted
-  none-exactly y other rows = (by (found rows), λ h. none-gives rows h.1 ∙ h.0)
+  pub none_exactly : NoneExactly refused accepted
+  none_exactly y other rows = (by (found rows), λ h. none_gives rows h.1 ∙ h.0)
     where
       by : ((s : R) × First rows s) ⊎ None rows → first_cause rows refused accepted ≡ y → (accepted ≡ y) × None rows
       by (inl f) e = absurd (other f.0 (sym (first_gives rows f.0 f.1) ∙ e))
-      by (inr n) e = (sym (none-gives rows n) ∙ e, n)
+      by (inr n) e = (sym (none_gives rows n) ∙ e, n)
 
 module _ {R A B : Type 0} (g : A → B) (refused : R → A) (accepted : A) where
   pub made : Made g refused accepted
@@ -60,4 +60,4 @@ module _ {R A B : Type 0} (g : A → B) (refused : R → A) (accepted : A) where
     where
       by : ((r : R) × First rows r) ⊎ None rows → g (first_cause rows refused accepted) ≡ first_cause rows (λ r. g (refused r)) (g accepted)
       by (inl f) = ap g (first_gives refused accepted rows f.0 f.1) ∙ sym (first_gives (λ r. g (refused r)) (g accepted) rows f.0 f.1)
-      by (inr n) = ap g (none-gives refused accepted rows n) ∙ sym (none-gives (λ r. g (refused r)) (g accepted) rows n)
+      by (inr n) = ap g (none_gives refused accepted rows n) ∙ sym (none_gives (λ r. g (refused r)) (g accepted) rows n)

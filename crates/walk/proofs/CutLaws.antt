@@ -18,7 +18,7 @@ use Rattle.walk.specs.declared.walking.Seen.TheVariants.{Stop, Whole}
 use Rattle.walk.specs.declared.walking.Tally.{Tally}
 use Rattle.walk.specs.Inside.{CutFits, held_by}
 use Rattle.walk.specs.Walk.{front, seen_of, cut_of, walk_of, ended_with, ended_by}
-use Rattle.walk.proofs.WalkLaws.{CutRest, sees-end, walk_ind, walk_stop, walk_whole}
+use Rattle.walk.proofs.WalkLaws.{CutRest, sees_end, walk_ind, walk_stop, walk_whole}
 
 -- a part of the field from a place to its end
 pub to_the_end : (l : List ℕ) (at : ℕ) → take (length l - at) (drop at l) ≡ drop at l
@@ -42,7 +42,7 @@ front_cut limit (Total t) n k e = go (ltb limit t) (leb t n) e
 
 cut_some : (F : Family) (laws : Lawful F) (limit : ℕ) (d : List ℕ) (k : ℕ) → seen_of F limit d ≡ Stop (End.Cut k) → (length d ≡ 0 → ⊥)
 cut_some F laws limit [] k e h =
-    let s = sees-end F limit [] laws.empty_waits refl in
+    let s = sees_end F limit [] laws.empty_waits refl in
     let z : ◌≡◌ {A = ℕ} 0 1 = cc in
     omega arith
 cut_some F laws limit (o ∷ d) k e h = omega arith
@@ -84,14 +84,14 @@ module _ (F : Family) (laws : Lawful F) (limit : ℕ) (field : List ℕ) (from :
   held_in (End.Cut k) h ws = (cut_in k h).0
   held_in (End.Oversize r) h ws = refl
 
-  cut-fits-at : (part : List ℕ) → length field ≤ length part → (e : End) → (walk_of F limit (drop from field)).end ≡ e → CutFits e field part
+  cut_fits_at : (part : List ℕ) → length field ≤ length part → (e : End) → (walk_of F limit (drop from field)).end ≡ e → CutFits e field part
   unfolding CutFits
-  cut-fits-at part r End.Foreign h = tt
-  cut-fits-at part r End.Exact h = tt
-  cut-fits-at part r (End.Cut k) h = let c = (cut_in k h).1 in (c, omega arith)
-  cut-fits-at part r (End.Oversize s) h = tt
+  cut_fits_at part r End.Foreign h = tt
+  cut_fits_at part r End.Exact h = tt
+  cut_fits_at part r (End.Cut k) h = let c = (cut_in k h).1 in (c, omega arith)
+  cut_fits_at part r (End.Oversize s) h = tt
 
   pub cut_fits : (part : List ℕ) → length field ≤ length part → (t : Tally) (e : Ended) → e ≡ ended_with F t (walk_of F limit (drop from field))
       → CutFits e.end field part
   unfolding ended_with
-  cut_fits part r t e h = cut-fits-at part r e.end (sym (ap (λ (x : Ended). x.end) h))
+  cut_fits part r t e h = cut_fits_at part r e.end (sym (ap (λ (x : Ended). x.end) h))

@@ -19,7 +19,7 @@ use Rattle.walk.specs.Inside.{broken_course, course_by, disagreed_course, held_b
 use Rattle.walk.specs.Steps.{Did, broke, course_of, disagreed}
 use Rattle.walk.specs.Walk.{cut_of, seen_of, walk_of, handed_all, no_tally, tallied_all, ended_with, Done, ended, ended_by}
 use Rattle.walk.proofs.CutLaws.{held_in}
-use Rattle.walk.proofs.WalkLaws.{walk_stop, sees-foreign, sees-oversize}
+use Rattle.walk.proofs.WalkLaws.{walk_stop, sees_foreign, sees_oversize}
 
 -- what was done, by another name
 pub did_as : {F : Family} {d d' : Done} {course : Course} {part part' out out' : List ℕ} → d ≡ d' → Did F d' course part part' out out'
@@ -36,38 +36,38 @@ did_nothing F s f o t course part out z e =
 
 -- a walk that stops at once
 module _ (F : Family) (laws : Lawful F) (limit : ℕ) (d : List ℕ) where
-  ended-stop : (e : End) → Stop e ≡ seen_of F limit d → ended (walk_of F limit d) ≡ ended_by e [] (cut_of e d)
-  ended-stop e s = rw (walk_stop F laws limit d e (sym s))
+  ended_stop : (e : End) → Stop e ≡ seen_of F limit d → ended (walk_of F limit d) ≡ ended_by e [] (cut_of e d)
+  ended_stop e s = rw (walk_stop F laws limit d e (sym s))
 
-  pub ended-foreign : F.size d ≡ Foreign
+  pub ended_foreign : F.size d ≡ Foreign
       → ended (walk_of F limit d)
       ≡ record { state = Hunting; held = []; whole = []; broken = 0; disagreement = 0; foreign = 1; oversize = 0 }
   unfolding ended_by
-  ended-foreign e = ended-stop End.Foreign (sees-foreign F limit d e)
+  ended_foreign e = ended_stop End.Foreign (sees_foreign F limit d e)
 
-  pub ended-oversize : (n there : ℕ) → F.size d ≡ Total n → limit < n → length d ≡ there
+  pub ended_oversize : (n there : ℕ) → F.size d ≡ Total n → limit < n → length d ≡ there
       → ended (walk_of F limit d)
       ≡ record { state = Skipping (n - there); held = []; whole = []; broken = 0; disagreement = 0; foreign = 0; oversize = 1 }
   unfolding ended_by
-  ended-oversize n there e h l = rw (← l) (ended-stop (End.Oversize (n - length d)) (sees-oversize F limit d n e h))
+  ended_oversize n there e h l = rw (← l) (ended_stop (End.Oversize (n - length d)) (sees_oversize F limit d n e h))
 
   -- all of it is held
-  pub did-hold : (course : Course) (part part' out : List ℕ) (there : ℕ) → Stop (End.Cut (length d)) ≡ seen_of F limit d → length d ≡ there
+  pub did_hold : (course : Course) (part part' out : List ℕ) (there : ℕ) → Stop (End.Cut (length d)) ≡ seen_of F limit d → length d ≡ there
       → course ≡ course_by no_tally (End.Cut there) → part' ≡ laid part 0 d → Did F (ended (walk_of F limit d)) course part part' out out
   unfolding ended_by cut_of course_by course_of tallied_all handed_all
-  did-hold course part part' out there s l reports holds =
-      did_as (ended-stop (End.Cut (length d)) s)
+  did_hold course part part' out there s l reports holds =
+      did_as (ended_stop (End.Cut (length d)) s)
       (record { reports = rw l reports; holds = holds; hands = sym (laid_nil out 0) })
 
 -- with the packet under way broken, and with a disagreement besides
 module _ {F : Family} (s : State) {d : Done} {course c : Course} {part part' out out' : List ℕ} (h : Did F d course part part' out out') where
-  pub did-broke : c ≡ broken_course s course → Did F (broke s d) c part part' out out'
+  pub did_broke : c ≡ broken_course s course → Did F (broke s d) c part part' out out'
   unfolding course_of
-  did-broke e = record { reports = rw h.reports at e; holds = h.holds; hands = h.hands }
+  did_broke e = record { reports = rw h.reports at e; holds = h.holds; hands = h.hands }
 
-  pub did-disagreed : c ≡ disagreed_course s course → Did F (disagreed s d) c part part' out out'
+  pub did_disagreed : c ≡ disagreed_course s course → Did F (disagreed s d) c part part' out out'
   unfolding course_of
-  did-disagreed e = record { reports = rw h.reports at e; holds = h.holds; hands = h.hands }
+  did_disagreed e = record { reports = rw h.reports at e; holds = h.holds; hands = h.hands }
 
 -- what the code reports of an end, and the whole packets
 course_by_lem : (F : Family) (e : End) (ws : List (List ℕ)) (rest : List ℕ) → course_by (tallied_all F no_tally ws) e ≡ course_of F (ended_by e ws rest)
@@ -86,13 +86,13 @@ whole_by (End.Oversize r) ws rest = refl
 
 -- a run d whose walk ends as the one over the field from a place on, and what was settled at its end
 module _ (F : Family) (laws : Lawful F) (limit : ℕ) (field : List ℕ) (from : ℕ) (inside : from ≤ length field) (course : Course) (part part' out out' : List ℕ) (e : Ended) where
-  pub did-walk : (d : List ℕ) → (walk_of F limit d).end ≡ (walk_of F limit (drop from field)).end
+  pub did_walk : (d : List ℕ) → (walk_of F limit d).end ≡ (walk_of F limit (drop from field)).end
       → (walk_of F limit d).rest ≡ (walk_of F limit (drop from field)).rest → (t : Tally) → t ≡ no_tally → e ≡ ended_with F t (walk_of F limit d)
       → out' ≡ laid out t.filled (handed_all F (walk_of F limit d).whole)
       → course ≡ course_by e.tally e.end → part' ≡ laid part 0 (held_by e.end field)
       → Did F (ended (walk_of F limit d)) course part part' out out'
   unfolding ended_with
-  did-walk d ends rests t z f hands reports holds =
+  did_walk d ends rests t z f hands reports holds =
       let w = walk_of F limit d in
       let v = walk_of F limit (drop from field) in
       record {

@@ -17,7 +17,7 @@ use Rattle.packet.specs.declared.source.Size.{Size}
 use Rattle.packet.specs.declared.source.Size.TheVariants.{Wait, Foreign, Total}
 use Rattle.channel.specs.Rules.{judged, state_follows}
 use Rattle.channel.specs.declared.state.State.TheVariants.{Gathering}
-use Rattle.channel.proofs.RuleLaws.{both, and, gathers-told}
+use Rattle.channel.proofs.RuleLaws.{both, and, gathers_told}
 use Rattle.walk.specs.declared.walking.End.{End}
 use Rattle.walk.specs.declared.walking.Seen.{Seen}
 use Rattle.walk.specs.declared.walking.Seen.TheVariants.{Stop, Whole}
@@ -33,10 +33,10 @@ clash z = absurd (omega arith)
 pub held_total : (F : Family) (laws : Lawful F) (limit k n : ℕ) (part more : List ℕ) → length part ≡ limit
     → state_follows F limit part (Gathering k) ≡ true → F.size (take k part ++ more) ≡ Total n → (k < n) × (limit < n → k < F.header)
 unfolding judged
-held_total F laws limit k n part more l e t = go (F.size (take k part)) refl (gathers-told F limit part k e).2
+held_total F laws limit k n part more l e t = go (F.size (take k part)) refl (gathers_told F limit part k e).2
   where
     w : length (take k part) ≡ k
-    w = length-take-le k part (gathers-told F limit part k e).1
+    w = length-take-le k part (gathers_told F limit part k e).1
 
     above : F.size (take k part) ≡ Wait → Dec (k < n) → k < n
     above p (yes h) = h
@@ -62,10 +62,10 @@ SeenFollows F limit O d (Stop e) = EndFollows F limit O e (cut_of e d)
 SeenFollows F limit O d (Whole n) = Unit {0}
 
 module _ (F : Family) (laws : Lawful F) (limit : ℕ) (O : Type 0) (wide : F.header ≤ limit) where
-  seen-follows : (d : List ℕ) → (O → Octets d) → ((t : ℕ) → F.size d ≡ Total t → limit < t → length d < t)
+  seen_follows : (d : List ℕ) → (O → Octets d) → ((t : ℕ) → F.size d ≡ Total t → limit < t → length d < t)
       → SeenFollows F limit O d (seen_of F limit d)
   unfolding seen_of front cut_of judged
-  seen-follows d octets over = go (F.size d) refl
+  seen_follows d octets over = go (F.size d) refl
     where
       waits : F.size d ≡ Wait → (b : Bool) → SeenFollows F limit O d (Stop (pick b End.Exact (End.Cut (length d))))
       waits p true = tt
@@ -89,17 +89,17 @@ module _ (F : Family) (laws : Lawful F) (limit : ℕ) (O : Type 0) (wide : F.hea
       go (Total t) p = tells t p (ltb limit t) refl (leb t (length d)) refl
 
   -- the end of a walk over a run that is no longer than the limit
-  pub walk-follows : (d : List ℕ) → length d ≤ limit → (O → Octets d) → EndFollows F limit O (walk_of F limit d).end (walk_of F limit d).rest
-  walk-follows =
+  pub walk_follows : (d : List ℕ) → length d ≤ limit → (O → Octets d) → EndFollows F limit O (walk_of F limit d).end (walk_of F limit d).rest
+  walk_follows =
       walk_ind F laws limit (λ d. length d ≤ limit → (O → Octets d) → EndFollows F limit O (walk_of F limit d).end (walk_of F limit d).rest)
-      (λ d e s l o. rw (walk_stop F laws limit d e s) (rw s at (seen-follows d o (λ t p h. omega arith))))
+      (λ d e s l o. rw (walk_stop F laws limit d e s) (rw s at (seen_follows d o (λ t p h. omega arith))))
       (λ d n s h l o. rw (walk_whole F laws limit d n s) (h (omega (arith, length-drop n d)) (λ p. octets_drop d n (o p))))
 
   -- the end of a walk over held octets that keep the rules, and a field behind them
-  pub held-follows : (k : ℕ) (part field : List ℕ) → length part ≡ limit → length field + F.header ≤ limit → state_follows F limit part (Gathering k) ≡ true
+  pub held_follows : (k : ℕ) (part field : List ℕ) → length part ≡ limit → length field + F.header ≤ limit → state_follows F limit part (Gathering k) ≡ true
       → (O → Octets part) → (O → Octets field)
       → EndFollows F limit O (walk_of F limit (take k part ++ field)).end (walk_of F limit (take k part ++ field)).rest
-  held-follows k part field l w e op of = go (seen_of F limit d) refl
+  held_follows k part field l w e op of = go (seen_of F limit d) refl
     where
       d : List ℕ
       d = take k part ++ field
@@ -114,7 +114,7 @@ module _ (F : Family) (laws : Lawful F) (limit : ℕ) (O : Type 0) (wide : F.hea
       over t p h = omega (arith, long, (held_total F laws limit k t part field l e p).1 h)
 
       go : (s : Seen) → seen_of F limit d ≡ s → EndFollows F limit O (walk_of F limit d).end (walk_of F limit d).rest
-      go (Stop e) s = rw (walk_stop F laws limit d e s) (rw s at (seen-follows d octets over))
+      go (Stop e) s = rw (walk_stop F laws limit d e s) (rw s at (seen_follows d octets over))
       go (Whole n) s =
           let beyond = (held_total F laws limit k n part field l e (seen_whole F laws limit d n s).told).0 in
-          rw (walk_whole F laws limit d n s) (walk-follows (drop n d) (omega (arith, long, length-drop n d)) (λ o. octets_drop d n (octets o)))
+          rw (walk_whole F laws limit d n s) (walk_follows (drop n d) (omega (arith, long, length-drop n d)) (λ o. octets_drop d n (octets o)))

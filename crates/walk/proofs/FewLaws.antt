@@ -51,32 +51,32 @@ abbrev Few : Family → ℕ → Done → ℕ → Type 0
 Few F D d skips = F.least * (length d.whole + skips) < D + F.least
 
 module _ (F : Family) (laws : Lawful F) (D m : ℕ) where
-  few-none : F.least * m ≤ D → F.least * (m + 0) < D + F.least
-  few-none h = rw (add-zero m) (omega (arith, laws.least_some))
+  few_none : F.least * m ≤ D → F.least * (m + 0) < D + F.least
+  few_none h = rw (add-zero m) (omega (arith, laws.least_some))
 
-  few-one : F.least * m < D → F.least * (m + 1) < D + F.least
-  few-one h = rw (add-one m, mul-suc F.least m) (omega arith)
+  few_one : F.least * m < D → F.least * (m + 1) < D + F.least
+  few_one h = rw (add-one m, mul-suc F.least m) (omega arith)
 
 module _ (F : Family) (laws : Lawful F) (limit : ℕ) (part field : List ℕ) where
-  nothing-few : F.least * (0 + 0) < length field + F.least
-  nothing-few = few-none F laws (length field) 0 (rw (mul-zero F.least) (omega arith))
+  nothing_few : F.least * (0 + 0) < length field + F.least
+  nothing_few = few_none F laws (length field) 0 (rw (mul-zero F.least) (omega arith))
 
-  run-few : (d : List ℕ) → length d ≤ length field → Few F (length field) (ended (walk_of F limit d)) 0
-  run-few d h = rw whole_same (few-none F laws (length field) (length (walk_of F limit d).whole) (omega (arith, walk_count F laws limit d)))
+  run_few : (d : List ℕ) → length d ≤ length field → Few F (length field) (ended (walk_of F limit d)) 0
+  run_few d h = rw whole_same (few_none F laws (length field) (length (walk_of F limit d).whole) (omega (arith, walk_count F laws limit d)))
 
-  skip-few : (d : List ℕ) → length d < length field → Few F (length field) (ended (walk_of F limit d)) 1
-  skip-few d h = rw whole_same (few-one F laws (length field) (length (walk_of F limit d).whole) (omega (arith, walk_count F laws limit d)))
+  skip_few : (d : List ℕ) → length d < length field → Few F (length field) (ended (walk_of F limit d)) 1
+  skip_few d h = rw whole_same (few_one F laws (length field) (length (walk_of F limit d).whole) (omega (arith, walk_count F laws limit d)))
 
   -- the packet under way ends in the field, so that it takes at least one octet of it
-  held-few : (k : ℕ) → length part ≡ limit → state_follows F limit part (Gathering k) ≡ true
+  held_few : (k : ℕ) → length part ≡ limit → state_follows F limit part (Gathering k) ≡ true
       → Few F (length field) (ended (walk_of F limit (take k part ++ field))) 0
-  held-few k l e = rw whole_same (go (seen_of F limit d) refl)
+  held_few k l e = rw whole_same (go (seen_of F limit d) refl)
     where
       d : List ℕ
       d = take k part ++ field
 
       go : (s : Seen) → seen_of F limit d ≡ s → F.least * (length (walk_of F limit d).whole + 0) < length field + F.least
-      go (Stop e) s = rw (walk_stop F laws limit d e s) nothing-few
+      go (Stop e) s = rw (walk_stop F laws limit d e s) nothing_few
       go (Whole n) s =
           let stands = seen_whole F laws limit d n s in
           let beyond = (held_total F laws limit k n part field l e stands.told).0 in
@@ -84,26 +84,26 @@ module _ (F : Family) (laws : Lawful F) (limit : ℕ) (part field : List ℕ) wh
           rw (walk_whole F laws limit d n s, add-zero (suc m), mul-suc F.least m)
           (omega (arith, walk_count F laws limit (drop n d), length-drop n d, length-append (take k part) field, length-take k part))
 
-  hunt-few : (pointer : ℕ) → Few F (length field) (hunted F limit field pointer) 0
+  hunt_few : (pointer : ℕ) → Few F (length field) (hunted F limit field pointer) 0
   unfolding hunted
-  hunt-few pointer = go (eqb pointer none_starts)
+  hunt_few pointer = go (eqb pointer none_starts)
     where
       go : (b : Bool) → Few F (length field) (pick b (only Hunting) (ended (walk_of F limit (drop pointer field)))) 0
-      go true = nothing-few
-      go false = run-few (drop pointer field) (omega (arith, length-drop pointer field))
+      go true = nothing_few
+      go false = run_few (drop pointer field) (omega (arith, length-drop pointer field))
 
   module _ (whole_part : length part ≡ limit) where
-    resume-few : (pointer : ℕ) (s : State) → state_follows F limit part s ≡ true
+    resume_few : (pointer : ℕ) (s : State) → state_follows F limit part s ≡ true
         → Few F (length field) (resumed F limit part field pointer s) (pick (skips_out s pointer (length field)) 1 0)
     unfolding resumed gathered skipped skips_out state_follows
-    resume-few pointer Hunting e = hunt-few pointer
-    resume-few pointer (Gathering k) e = go (agrees (length field) k (F.size (take k part ++ field)) pointer)
+    resume_few pointer Hunting e = hunt_few pointer
+    resume_few pointer (Gathering k) e = go (agrees (length field) k (F.size (take k part ++ field)) pointer)
       where
         go : (b : Bool)
             → Few F (length field) (pick b (ended (walk_of F limit (take k part ++ field))) (disagreed (Gathering k) (hunted F limit field pointer))) 0
-        go true = held-few k whole_part e
-        go false = hunt-few pointer
-    resume-few pointer (Skipping r) e = go (eqb pointer (called_at (length field) r)) (leb r (length field)) refl
+        go true = held_few k whole_part e
+        go false = hunt_few pointer
+    resume_few pointer (Skipping r) e = go (eqb pointer (called_at (length field) r)) (leb r (length field)) refl
       where
         some : 1 ≤ r
         some = leb-true 1 r (both _ _ e).0
@@ -113,21 +113,21 @@ module _ (F : Family) (laws : Lawful F) (limit : ℕ) (part field : List ℕ) wh
             (pick a (pick b (ended (walk_of F limit (drop r field))) (only (Skipping (r - length field))))
             (disagreed (Skipping r) (hunted F limit field pointer)))
             (pick (a && b) 1 0)
-        go true true q = skip-few (drop r field) (omega (arith, some, length-drop r field, leb-true r (length field) q))
-        go true false q = nothing-few
-        go false b q = hunt-few pointer
+        go true true q = skip_few (drop r field) (omega (arith, some, length-drop r field, leb-true r (length field) q))
+        go true false q = nothing_few
+        go false b q = hunt_few pointer
 
-    pub steps-few : (h : Header) (c : Channel) → state_follows F limit part c.state ≡ true
+    pub steps_few : (h : Header) (c : Channel) → state_follows F limit part c.state ≡ true
         → Few F (length field) (steps_of F limit part field h c)
         (pick (carries_none h) 0 (pick (not (eqb (gap_for c h) 0)) 0 (pick (skips_out c.state h.pointer (length field)) 1 0)))
     unfolding steps_of
-    steps-few h c e = go (carries_none h) (not (eqb (gap_for c h) 0))
+    steps_few h c e = go (carries_none h) (not (eqb (gap_for c h) 0))
       where
         go : (a b : Bool)
             → Few F (length field)
             (pick a (broke c.state (only Hunting))
             (pick b (broke c.state (hunted F limit field h.pointer)) (resumed F limit part field h.pointer c.state)))
             (pick a 0 (pick b 0 (pick (skips_out c.state h.pointer (length field)) 1 0)))
-        go true b = nothing-few
-        go false true = hunt-few h.pointer
-        go false false = resume-few h.pointer c.state e
+        go true b = nothing_few
+        go false true = hunt_few h.pointer
+        go false false = resume_few h.pointer c.state e

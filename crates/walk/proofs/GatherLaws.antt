@@ -18,7 +18,7 @@ use Rattle.packet.specs.declared.source.Size.TheVariants.{Wait, Foreign, Total}
 use Rattle.packet.proofs.Laws.{source_lawful, fits_by_limit, idle_told}
 use Rattle.channel.specs.Rules.{judged, state_follows}
 use Rattle.channel.specs.declared.state.State.TheVariants.{Gathering}
-use Rattle.channel.proofs.RuleLaws.{both, gathers-told}
+use Rattle.channel.proofs.RuleLaws.{both, gathers_told}
 use Rattle.walk.specs.declared.stepping.Course.{Course}
 use Rattle.walk.specs.declared.walking.Ended.{Ended}
 use Rattle.walk.specs.declared.walking.Seen.TheVariants.{Whole}
@@ -26,8 +26,8 @@ use Rattle.walk.specs.declared.walking.Tally.{Tally}
 use Rattle.walk.specs.Inside.{course_by, held_by}
 use Rattle.walk.specs.Steps.{Did}
 use Rattle.walk.specs.Walk.{seen_of, walk_of, handed, handed_all, no_tally, one_idle, one_delivered, tallied, ended_with, ended}
-use Rattle.walk.proofs.WalkLaws.{walk_whole, sees-packet, counted_more, ended_with_more, output_more, idle_tally, idle_output, delivered_tally, delivered_output}
-use Rattle.walk.proofs.DoneLaws.{did-walk}
+use Rattle.walk.proofs.WalkLaws.{walk_whole, sees_packet, counted_more, ended_with_more, output_more, idle_tally, idle_output, delivered_tally, delivered_output}
+use Rattle.walk.proofs.DoneLaws.{did_walk}
 
 -- the run of k held octets and the field
 pub length_run : (part field : List ℕ) (k : ℕ) → k ≤ length part → length (take k part ++ field) ≡ k + length field
@@ -54,18 +54,18 @@ module _ (held field : List ℕ) (k n : ℕ) (e : k ≡ length held) (above : k 
   seam : length held + (n - k) ≡ n
   seam = omega arith
 
-  across-take : take n (held ++ field) ≡ held ++ take (n - k) field
-  across-take = ap (λ (m : ℕ). take m (held ++ field)) (sym seam) ∙ take-append-add held field (n - k)
+  across_take : take n (held ++ field) ≡ held ++ take (n - k) field
+  across_take = ap (λ (m : ℕ). take m (held ++ field)) (sym seam) ∙ take-append-add held field (n - k)
 
-  across-drop : drop n (held ++ field) ≡ drop (n - k) field
-  across-drop = ap (λ (m : ℕ). drop m (held ++ field)) (sym seam) ∙ drop-append-add held field (n - k)
+  across_drop : drop n (held ++ field) ≡ drop (n - k) field
+  across_drop = ap (λ (m : ℕ). drop m (held ++ field)) (sym seam) ∙ drop-append-add held field (n - k)
 
   -- the walk over the field that goes on behind it has room
-  pub gather-room : (limit : ℕ) (out : List ℕ) (t : Tally) → n ≤ k + length field → length field ≤ limit → k + length field < length out
+  pub gather_room : (limit : ℕ) (out : List ℕ) (t : Tally) → n ≤ k + length field → length field ≤ limit → k + length field < length out
       → t ≡ tallied source no_tally (take n (held ++ field))
       → (n - k ≤ length field) × (length field ≤ limit) × (t.filled + (length field - (n - k)) ≤ length out)
       × (t.delivered + t.idle + (length field - (n - k)) ≤ length out)
-  gather-room limit out t there fits room et =
+  gather_room limit out t there fits room et =
       let p = take n (held ++ field) in
       let l = length-take n (held ++ field) in
       let f = tally_fits p in
@@ -73,50 +73,50 @@ module _ (held field : List ℕ) (k n : ℕ) (e : k ≡ length held) (above : k 
       rw et (omega arith)
 
   -- it is finished, and the walk over the field went on behind it
-  pub did-gather : (limit : ℕ) (course : Course) (part part' out out₁ out' : List ℕ) (t : Tally) (end : Ended)
+  pub did_gather : (limit : ℕ) (course : Course) (part part' out out₁ out' : List ℕ) (t : Tally) (end : Ended)
       → size_of (held ++ field) ≡ Total n → n ≤ limit → n ≤ k + length field → k + length field ≤ length out
       → t ≡ tallied source no_tally (take n (held ++ field)) → out₁ ≡ laid out 0 (handed source (take n (held ++ field)))
       → end ≡ ended_with source t (walk_of source limit (drop (n - k) field))
       → out' ≡ laid out₁ t.filled (handed_all source (walk_of source limit (drop (n - k) field)).whole)
       → course ≡ course_by end.tally end.end → part' ≡ laid part 0 (held_by end.end field)
       → Did source (ended (walk_of source limit (held ++ field))) course part part' out out'
-  did-gather limit course part part' out out₁ out' t end told within there room et e₁ answer output reports holds =
+  did_gather limit course part part' out out₁ out' t end told within there room et e₁ answer output reports holds =
       let d = held ++ field in
       let l : length d ≡ k + length field = omega (arith, length-append held field) in
-      let s : seen_of source limit d ≡ Whole n = sym (sees-packet source limit d n told within (omega arith)) in
+      let s : seen_of source limit d ≡ Whole n = sym (sees_packet source limit d n told within (omega arith)) in
       let w = walk_whole source source_lawful limit d n s in
-      did-walk source source_lawful limit field (n - k) (omega arith) course part part' out out' end d
-      (rw (w, across-drop))
-      (rw (w, across-drop))
+      did_walk source source_lawful limit field (n - k) (omega arith) course part part' out out' end d
+      (rw (w, across_drop))
+      (rw (w, across_drop))
       no_tally
       refl
-      (answer ∙ rw (et, ← across-drop) (ended_with_more source source_lawful limit no_tally d n s))
-      (output ∙ rw (et, e₁, ← across-drop) (output_more source source_lawful limit no_tally d out n s (omega arith)))
+      (answer ∙ rw (et, ← across_drop) (ended_with_more source source_lawful limit no_tally d n s))
+      (output ∙ rw (et, e₁, ← across_drop) (output_more source source_lawful limit no_tally d out n s (omega arith)))
       reports
       holds
 
 -- such a packet, idle or delivered
 module _ (held field out : List ℕ) (n : ℕ) (least : 7 ≤ n) where
-  pub finish-idle : idle_of (held ++ field) ≡ true
+  pub finish_idle : idle_of (held ++ field) ≡ true
       → (record { delivered = 0; idle = 1; filled = 0 } ≡ tallied source no_tally (take n (held ++ field)))
       × (out ≡ laid out 0 (handed source (take n (held ++ field))))
-  finish-idle i =
+  finish_idle i =
       let p = take n (held ++ field) in
       let j : idle_of p ≡ true = idle_told (held ++ field) n (omega arith) ∙ i in
       (idle_tally source no_tally p j, idle_output source out p 0 j)
 
-  pub finish-delivered : length held ≤ n → n ≤ length held + length field → n ≤ length out → idle_of (held ++ field) ≡ false
+  pub finish_delivered : length held ≤ n → n ≤ length held + length field → n ≤ length out → idle_of (held ++ field) ≡ false
       → (out₁ out₂ : List ℕ) → out₁ ≡ laid out 0 held → out₂ ≡ laid out₁ (length held) (take (n - length held) field)
       → (record { delivered = 1; idle = 0; filled = n } ≡ tallied source no_tally (take n (held ++ field)))
       × (out₂ ≡ laid out 0 (handed source (take n (held ++ field))))
-  finish-delivered h there room i out₁ out₂ e₁ e₂ =
+  finish_delivered h there room i out₁ out₂ e₁ e₂ =
       let p = take n (held ++ field) in
       let r = take (n - length held) field in
       let j : idle_of p ≡ false = idle_told (held ++ field) n (omega arith) ∙ i in
       let l : n ≡ 0 + length p = omega (arith, length-take n (held ++ field), length-append held field) in (
         ap (λ (m : ℕ). record { delivered = 1; idle = 0; filled = m }) l ∙ delivered_tally source no_tally p j,
         e₂ ∙ ap (λ (o : List ℕ). laid o (length held) r) e₁ ∙ laid_behind out 0 (length held) held r (omega arith) (omega arith)
-            ∙ ap (laid out 0) (sym (across-take held field (length held) n refl h)) ∙ delivered_output source out p 0 j,
+            ∙ ap (laid out 0) (sym (across_take held field (length held) n refl h)) ∙ delivered_output source out p 0 j,
       )
 
 -- fewer than six octets wait
@@ -128,13 +128,13 @@ module _ (limit : ℕ) (p : List ℕ) (n : ℕ) {b : Bool} (t : size_of p ≡ To
   pub too_long : b ≡ false → limit < n
   too_long f = leb-false n limit (sym (fits_by_limit limit p n t) ∙ sym e ∙ f)
 
-  pub not-too-long : b ≡ true → n ≤ limit
-  not-too-long f = leb-true n limit (sym (fits_by_limit limit p n t) ∙ sym e ∙ f)
+  pub not_too_long : b ≡ true → n ≤ limit
+  not_too_long f = leb-true n limit (sym (fits_by_limit limit p n t) ∙ sym e ∙ f)
 
 -- what the rules say of k held octets
 pub gathers : (limit : ℕ) (part : List ℕ) (k : ℕ) → state_follows source limit part (Gathering k) ≡ true
     → (k < limit) × (judged limit k (size_of (take k part)) ≡ true)
-gathers limit part k e = let t = gathers-told source limit part k e in (t.0, t.2)
+gathers limit part k e = let t = gathers_told source limit part k e in (t.0, t.2)
 
 pub held_there : (limit : ℕ) (part : List ℕ) (k : ℕ) → length part ≡ limit → state_follows source limit part (Gathering k) ≡ true
     → (k ≤ length part) × (k ≡ length (take k part))

@@ -74,9 +74,9 @@ module _ (F : Family) {counts counts' : List (List ℕ) → Tally} {output outpu
       let y = v.delivered p ps e in
       (rw (x.0, y.0, h.0), rw (x.1, y.1, h.1))
 
-  handed-same : (ps : List (List ℕ)) → (counts ps ≡ counts' ps) × (output ps ≡ output' ps)
-  handed-same [] = (w.none.0 ∙ sym v.none.0, w.none.1 ∙ sym v.none.1)
-  handed-same (p ∷ ps) = one_more p ps (handed-same ps) (F.idle p) refl
+  handed_same : (ps : List (List ℕ)) → (counts ps ≡ counts' ps) × (output ps ≡ output' ps)
+  handed_same [] = (w.none.0 ∙ sym v.none.0, w.none.1 ∙ sym v.none.1)
+  handed_same (p ∷ ps) = one_more p ps (handed_same ps) (F.idle p) refl
 
 -- a frame that finished these packets
 finished : List (List ℕ) → Done
@@ -94,5 +94,5 @@ handed_in_words F counts output = (
         idle = λ p ps e. (rw (c (p ∷ ps), c ps) (h.idle p ps e).0, rw (o (p ∷ ps), o ps) (h.idle p ps e).1);
         delivered = λ p ps e. (rw (c (p ∷ ps), c ps) (h.delivered p ps e).0, rw (o (p ∷ ps), o ps) (h.delivered p ps e).1);
       },
-  λ w d. handed-same F w (handed_words F) d.whole,
+  λ w d. handed_same F w (handed_words F) d.whole,
 )

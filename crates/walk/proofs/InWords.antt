@@ -25,9 +25,9 @@ use Rattle.walk.specs.declared.walking.End.{End}
 use Rattle.walk.specs.Steps.{broke, carries_none, disagreed, gap_for, hunted, resumed, steps_of}
 use Rattle.walk.specs.Theorems.{Agrees, Alike, BrokenNowhereElse, EndsIn, OversizeAtSix, StepsInWordsLaw, StepsInWords, UnderWay, WalkInWordsLaw, WalkInWords}
 use Rattle.walk.specs.Walk.{Done, Walked, cut_of, only, walk_of}
-use Rattle.walk.proofs.StepLaws.{carries_packets, skips-on, skips-out, steps-gap, steps-none, steps_on}
-use Rattle.walk.proofs.WalkLaws.{sees-cut, sees-end, sees-few, sees-foreign, sees-oversize, sees-packet, walk_stop, walk_whole}
-use Rattle.walk.proofs.WordLaws.{agreed, agrees?, alike_broke, alike_disagreed, apart, breaks, breaks_none, clash, ends_alike, ends_as, ends_only, hunt-ends, hunt-walks, hunt-zero, hunting_gathering, hunting_idle, hunting_skipping, hunts_or_not, off, on-gathering, on-zero, skip-called, sound, under_way_or_not, walks, walks-alike, walks-as}
+use Rattle.walk.proofs.StepLaws.{carries_packets, skips_on, skips_out_lem, steps_gap, steps_none, steps_on}
+use Rattle.walk.proofs.WalkLaws.{sees_cut, sees_end, sees_few, sees_foreign, sees_oversize, sees_packet, walk_stop, walk_whole}
+use Rattle.walk.proofs.WordLaws.{agreed, agrees_or_not, alike_broke, alike_disagreed, apart, breaks, breaks_none, clash, ends_alike, ends_as, ends_only, hunt_ends, hunt_walks, hunt_zero, hunting_gathering, hunting_idle, hunting_skipping, hunts_or_not, off, on_gathering, on_zero, skip_called, sound, under_way_or_not, walks, walks_alike, walks_as}
 
 -- a frame that is neither private nor idle carries packets
 carries : (h : Header) → h.synchronisation ≡ false → (h.pointer ≡ 2046 → ⊥) → carries_none h ≡ false
@@ -50,9 +50,9 @@ gap_repeated h c e q =
 
 -- the steps keep to the sentences: an idle or a private frame, a gap, a pointer that agrees, and one that does not
 module _ (F : Family) (limit : ℕ) (part field : List ℕ) (h : Header) (c : Channel) where
-  none-words : carries_none h ≡ true → StepsInWords F limit part field h c (gap_for c h) (broke c.state (only Hunting))
+  none_words : carries_none h ≡ true → StepsInWords F limit part field h c (gap_for c h) (broke c.state (only Hunting))
   unfolding agreed
-  none-words e =
+  none_words e =
       let ends : EndsIn Hunting (broke c.state (only Hunting)) = ends_as (alike_broke c.state (only Hunting)) (ends_only Hunting) in
       record {
         unheard = gap_unheard h c;
@@ -80,10 +80,10 @@ module _ (F : Family) (limit : ℕ) (part field : List ℕ) (h : Header) (c : Ch
       }
 
   module _ (e : carries_none h ≡ false) where
-    gap-words : (gap_for c h ≡ 0 → ⊥)
+    gap_words : (gap_for c h ≡ 0 → ⊥)
         → StepsInWords F limit part field h c (gap_for c h) (broke c.state (hunted F limit field h.pointer))
     unfolding agreed
-    gap-words g =
+    gap_words g =
         let q = carries_packets h e in
         let a = alike_broke c.state (hunted F limit field h.pointer) in
         record {
@@ -99,25 +99,25 @@ module _ (F : Family) (limit : ℕ) (part field : List ℕ) (h : Header) (c : Ch
           hunting_breaks = λ z. breaks c.state;
           idle_ends = λ i. absurd (q.1 i);
           private_ends = λ t. absurd (false≢true (sym q.0 ∙ t));
-          agrees = λ x. (refl, (hunt-zero F limit field h.pointer).1);
+          agrees = λ x. (refl, (hunt_zero F limit field h.pointer).1);
           disagrees = λ n. absurd (n (sound F part field h.pointer Hunting refl));
           disagreement_breaks = λ n. breaks c.state;
           none_to_break = breaks_none c.state;
           unbroken = λ n. absurd (n refl);
-          none_begins = λ z i. ends_as a (hunt-ends F limit field h.pointer i);
-          starts = λ t i z n. walks-as F limit (drop h.pointer field) a (hunt-walks F limit field h.pointer n);
+          none_begins = λ z i. ends_as a (hunt_ends F limit field h.pointer i);
+          starts = λ t i z n. walks_as F limit (drop h.pointer field) a (hunt_walks F limit field h.pointer n);
           gathering = λ k z. hunting_gathering z;
           skip_ends = λ r z. hunting_skipping z;
           skip_goes_on = λ r z. hunting_skipping z;
         }
 
     module _ (g : gap_for c h ≡ 0) where
-      on-words : agreed F part field c.state h.pointer ≡ true
+      on_words : agreed F part field c.state h.pointer ≡ true
           → StepsInWords F limit part field h c (gap_for c h) (resumed F limit part field h.pointer c.state)
       unfolding resumed
-      on-words t =
+      on_words t =
           let q = carries_packets h e in
-          let zero = on-zero F limit part field h.pointer c.state t in
+          let zero = on_zero F limit part field h.pointer c.state t in
           record {
             unheard = gap_unheard h c;
             heard = gap_heard h c;
@@ -136,18 +136,18 @@ module _ (F : Family) (limit : ℕ) (part field : List ℕ) (h : Header) (c : Ch
             disagreement_breaks = λ n. absurd (n (sound F part field h.pointer c.state t));
             none_to_break = λ n. zero.0;
             unbroken = λ n a. zero.0;
-            none_begins = λ z i. rw z (hunt-ends F limit field h.pointer i);
-            starts = λ p i z n. rw z (hunt-walks F limit field h.pointer n);
-            gathering = λ k z. rw (z, on-gathering F limit part field h.pointer k (rw z at t)) (walks F limit (take k part ++ field));
-            skip_ends = λ r z l. rw (z, skips-out F limit part field h.pointer r (skip-called F limit part field h.pointer r (rw z at t)) l)
+            none_begins = λ z i. rw z (hunt_ends F limit field h.pointer i);
+            starts = λ p i z n. rw z (hunt_walks F limit field h.pointer n);
+            gathering = λ k z. rw (z, on_gathering F limit part field h.pointer k (rw z at t)) (walks F limit (take k part ++ field));
+            skip_ends = λ r z l. rw (z, skips_out_lem F limit part field h.pointer r (skip_called F limit part field h.pointer r (rw z at t)) l)
                 (walks F limit (drop r field));
-            skip_goes_on = λ r z l. rw (z, skips-on F limit part field h.pointer r (skip-called F limit part field h.pointer r (rw z at t)) l)
+            skip_goes_on = λ r z l. rw (z, skips_on F limit part field h.pointer r (skip_called F limit part field h.pointer r (rw z at t)) l)
                 (ends_only (Skipping (r - length field)));
           }
 
-      off-words : agreed F part field c.state h.pointer ≡ false
+      off_words : agreed F part field c.state h.pointer ≡ false
           → StepsInWords F limit part field h c (gap_for c h) (disagreed c.state (hunted F limit field h.pointer))
-      off-words t =
+      off_words t =
           let q = carries_packets h e in
           let n = apart F part field h.pointer c.state t in
           let a = alike_disagreed c.state (hunted F limit field h.pointer) in
@@ -169,28 +169,28 @@ module _ (F : Family) (limit : ℕ) (part field : List ℕ) (h : Header) (c : Ch
             disagreement_breaks = λ x. breaks c.state;
             none_to_break = breaks_none c.state;
             unbroken = λ z x. absurd (n x);
-            none_begins = λ z i. ends_as a (hunt-ends F limit field h.pointer i);
-            starts = λ p i z m. walks-as F limit (drop h.pointer field) a (hunt-walks F limit field h.pointer m);
+            none_begins = λ z i. ends_as a (hunt_ends F limit field h.pointer i);
+            starts = λ p i z m. walks_as F limit (drop h.pointer field) a (hunt_walks F limit field h.pointer m);
             gathering = λ k z. hunting_gathering z;
             skip_ends = λ r z. hunting_skipping z;
             skip_goes_on = λ r z. hunting_skipping z;
           }
 
-  steps-words : StepsInWords F limit part field h c (gap_for c h) (steps_of F limit part field h c)
-  steps-words = first (carries_none h) refl
+  steps_words : StepsInWords F limit part field h c (gap_for c h) (steps_of F limit part field h c)
+  steps_words = first (carries_none h) refl
     where
       third : (e : carries_none h ≡ false) (g : gap_for c h ≡ 0) (b : Bool) → agreed F part field c.state h.pointer ≡ b
           → StepsInWords F limit part field h c (gap_for c h) (steps_of F limit part field h c)
-      third e g true t = rw (steps_on F limit part field h c e g) (on-words e g t)
-      third e g false t = rw (steps_on F limit part field h c e g, off F limit part field h.pointer c.state t) (off-words e g t)
+      third e g true t = rw (steps_on F limit part field h c e g) (on_words e g t)
+      third e g false t = rw (steps_on F limit part field h c e g, off F limit part field h.pointer c.state t) (off_words e g t)
 
       second : (e : carries_none h ≡ false) → Dec (gap_for c h ≡ 0)
           → StepsInWords F limit part field h c (gap_for c h) (steps_of F limit part field h c)
       second e (yes g) = third e g (agreed F part field c.state h.pointer) refl
-      second e (no g) = rw (steps-gap F limit part field h c e g) (gap-words e g)
+      second e (no g) = rw (steps_gap F limit part field h c e g) (gap_words e g)
 
       first : (b : Bool) → carries_none h ≡ b → StepsInWords F limit part field h c (gap_for c h) (steps_of F limit part field h c)
-      first true e = rw (steps-none F limit part field h c e) (none-words e)
+      first true e = rw (steps_none F limit part field h c e) (none_words e)
       first false e = second e (ℕ_discrete (gap_for c h) 0)
 
 done_same : {d e : Done} → Alike d e → d.broken ≡ e.broken → d.disagreement ≡ e.disagreement → d ≡ e
@@ -215,8 +215,8 @@ module _ {F : Family} {limit : ℕ} {part field : List ℕ} {h : Header} {c : Ch
       go true q = w.heard q ∙ sym (v.heard q)
       go false q = w.unheard q ∙ sym (v.unheard q)
 
-  second-same : w.second ≡ v.second
-  second-same = first h.synchronisation refl
+  second_same : w.second ≡ v.second
+  second_same = first h.synchronisation refl
     where
       third : h.synchronisation ≡ false → (h.pointer ≡ 2046 → ⊥) → Dec (gap ≡ 0) → w.second ≡ v.second
       third q i (yes g) = w.goes_on g i q ∙ sym (v.goes_on (sym gap_same ∙ g) i q)
@@ -231,41 +231,41 @@ module _ {F : Family} {limit : ℕ} {part field : List ℕ} {h : Header} {c : Ch
       first false q = second q (ℕ_discrete h.pointer 2046)
 
   there : Agrees F part field w.second h.pointer → Agrees F part field v.second h.pointer
-  there a = rw second-same at a
+  there a = rw second_same at a
 
   back : Agrees F part field v.second h.pointer → Agrees F part field w.second h.pointer
-  back a = rw (← second-same) at a
+  back a = rw (← second_same) at a
 
-  third-same : Dec (Agrees F part field w.second h.pointer) → (w.third ≡ v.third) × (d.disagreement ≡ e.disagreement)
-  third-same (yes a) =
+  third_same : Dec (Agrees F part field w.second h.pointer) → (w.third ≡ v.third) × (d.disagreement ≡ e.disagreement)
+  third_same (yes a) =
       let x = w.agrees a in
       let y = v.agrees (there a) in
-      (x.0 ∙ second-same ∙ sym y.0, x.1 ∙ sym y.1)
-  third-same (no n) =
+      (x.0 ∙ second_same ∙ sym y.0, x.1 ∙ sym y.1)
+  third_same (no n) =
       let x = w.disagrees n in
       let y = v.disagrees (λ a. n (back a)) in
       (x.0 ∙ sym y.0, x.1 ∙ sym y.1)
 
-  broken-same : Dec (UnderWay c.state) → Dec (Agrees F part field w.second h.pointer) → Dec (w.second ≡ Hunting) → d.broken ≡ e.broken
-  broken-same (no n) a z = w.none_to_break n ∙ sym (v.none_to_break n)
-  broken-same (yes u) (no n) z = w.disagreement_breaks n u ∙ sym (v.disagreement_breaks (λ a. n (back a)) u)
-  broken-same (yes u) (yes a) (yes z) = w.hunting_breaks z u ∙ sym (v.hunting_breaks (sym second-same ∙ z) u)
-  broken-same (yes u) (yes a) (no z) = w.unbroken z a ∙ sym (v.unbroken (λ y. z (second-same ∙ y)) (there a))
+  broken_same : Dec (UnderWay c.state) → Dec (Agrees F part field w.second h.pointer) → Dec (w.second ≡ Hunting) → d.broken ≡ e.broken
+  broken_same (no n) a z = w.none_to_break n ∙ sym (v.none_to_break n)
+  broken_same (yes u) (no n) z = w.disagreement_breaks n u ∙ sym (v.disagreement_breaks (λ a. n (back a)) u)
+  broken_same (yes u) (yes a) (yes z) = w.hunting_breaks z u ∙ sym (v.hunting_breaks (sym second_same ∙ z) u)
+  broken_same (yes u) (yes a) (no z) = w.unbroken z a ∙ sym (v.unbroken (λ y. z (second_same ∙ y)) (there a))
 
-  rest-same : w.third ≡ v.third → Alike d e
-  rest-same same = first h.synchronisation refl
+  rest_same : w.third ≡ v.third → Alike d e
+  rest_same same = first h.synchronisation refl
     where
       hunts : h.synchronisation ≡ false → (h.pointer ≡ 2046 → ⊥) → w.third ≡ Hunting → v.third ≡ Hunting → Dec (h.pointer ≡ 2047) → Alike d e
       hunts q i x y (yes n) = ends_alike (w.none_begins x n) (v.none_begins y n)
-      hunts q i x y (no n) = walks-alike F limit (drop h.pointer field) (w.starts q i x n) (v.starts q i y n)
+      hunts q i x y (no n) = walks_alike F limit (drop h.pointer field) (w.starts q i x n) (v.starts q i y n)
 
       skips : (r : ℕ) → w.third ≡ Skipping r → v.third ≡ Skipping r → Dec (r ≤ length field) → Alike d e
-      skips r x y (yes l) = walks-alike F limit (drop r field) (w.skip_ends r x l) (v.skip_ends r y l)
+      skips r x y (yes l) = walks_alike F limit (drop r field) (w.skip_ends r x l) (v.skip_ends r y l)
       skips r x y (no l) = ends_alike (w.skip_goes_on r x (omega arith)) (v.skip_goes_on r y (omega arith))
 
       third : h.synchronisation ≡ false → (h.pointer ≡ 2046 → ⊥) → (s : State) → w.third ≡ s → Alike d e
       third q i Hunting x = hunts q i x (sym same ∙ x) (ℕ_discrete h.pointer 2047)
-      third q i (Gathering k) x = walks-alike F limit (take k part ++ field) (w.gathering k x) (v.gathering k (sym same ∙ x))
+      third q i (Gathering k) x = walks_alike F limit (take k part ++ field) (w.gathering k x) (v.gathering k (sym same ∙ x))
       third q i (Skipping r) x = skips r x (sym same ∙ x) (dec_le r (length field))
 
       second : h.synchronisation ≡ false → Dec (h.pointer ≡ 2046) → Alike d e
@@ -278,13 +278,13 @@ module _ {F : Family} {limit : ℕ} {part field : List ℕ} {h : Header} {c : Ch
 
   words_same : d ≡ e
   words_same =
-      let a = agrees? F part field h.pointer w.second in
-      let t = third-same a in
-      done_same (rest-same t.0) (broken-same (under_way_or_not c.state) a (hunts_or_not w.second)) t.1
+      let a = agrees_or_not F part field h.pointer w.second in
+      let t = third_same a in
+      done_same (rest_same t.0) (broken_same (under_way_or_not c.state) a (hunts_or_not w.second)) t.1
 
 pub steps_in_words : StepsInWordsLaw
 steps_in_words F limit part field h c gap d =
-    let s = steps-words F limit part field h c in
+    let s = steps_words F limit part field h c in
     (λ e. rw (e.0, e.1) s, λ w. (gap_same w s, words_same w s))
 
 -- a broken packet counts nowhere else
@@ -302,7 +302,7 @@ broken_nowhere_else F limit part other field h c b = first (carries_none h) refl
     third : (e : carries_none h ≡ false) (g : gap_for c h ≡ 0) (t : Bool) → agreed F part field c.state h.pointer ≡ t
         → Alike (steps_of F limit part field h c) (steps_of F limit other field h (hunting c))
     third e g true t =
-        clash (sym (on-zero F limit part field h.pointer c.state t).0 ∙ sym (ap (λ (d : Done). d.broken) (steps_on F limit part field h c e g)) ∙ b)
+        clash (sym (on_zero F limit part field h.pointer c.state t).0 ∙ sym (ap (λ (d : Done). d.broken) (steps_on F limit part field h c e g)) ∙ b)
     third e g false t =
         rw (steps_on F limit part field h c e g, off F limit part field h.pointer c.state t, steps_on F limit other field h (hunting c) e (hunting_gap h c ∙ g))
         (record { state = refl; held = refl; whole = refl; foreign = refl; oversize = refl })
@@ -310,12 +310,12 @@ broken_nowhere_else F limit part other field h c b = first (carries_none h) refl
     second : (e : carries_none h ≡ false) → Dec (gap_for c h ≡ 0) → Alike (steps_of F limit part field h c) (steps_of F limit other field h (hunting c))
     second e (yes g) = third e g (agreed F part field c.state h.pointer) refl
     second e (no g) =
-        rw (steps-gap F limit part field h c e g, steps-gap F limit other field h (hunting c) e (λ z. g (sym (hunting_gap h c) ∙ z)))
+        rw (steps_gap F limit part field h c e g, steps_gap F limit other field h (hunting c) e (λ z. g (sym (hunting_gap h c) ∙ z)))
         (record { state = refl; held = refl; whole = refl; foreign = refl; oversize = refl })
 
     first : (t : Bool) → carries_none h ≡ t → Alike (steps_of F limit part field h c) (steps_of F limit other field h (hunting c))
     first true e =
-        rw (steps-none F limit part field h c e, steps-none F limit other field h (hunting c) e)
+        rw (steps_none F limit part field h c e, steps_none F limit other field h (hunting c) e)
         (record { state = refl; held = refl; whole = refl; foreign = refl; oversize = refl })
     first false e = second e (ℕ_discrete (gap_for c h) 0)
 
@@ -325,13 +325,13 @@ unfolding cut_of
 walk_words limit d =
     let w : Words d = size_in_words d in
     record {
-      packet = λ l v t n. walk_whole source source_lawful limit d (total_of d) (sym (sees-packet source limit d (total_of d) (w.six l v) t n));
-      foreign = λ l v. walk_stop source source_lawful limit d End.Foreign (sym (sees-foreign source limit d (w.other l v)));
+      packet = λ l v t n. walk_whole source source_lawful limit d (total_of d) (sym (sees_packet source limit d (total_of d) (w.six l v) t n));
+      foreign = λ l v. walk_stop source source_lawful limit d End.Foreign (sym (sees_foreign source limit d (w.other l v)));
       oversize = λ l v t. walk_stop source source_lawful limit d (End.Oversize (total_of d - length d))
-          (sym (sees-oversize source limit d (total_of d) (w.six l v) t));
-      cut_header = λ l v f. walk_stop source source_lawful limit d (End.Cut (length d)) (sym (sees-few source limit d (w.few l v f) (omega arith)));
-      cut = λ l v t n. walk_stop source source_lawful limit d (End.Cut (length d)) (sym (sees-cut source limit d (total_of d) (w.six l v) t n));
-      exact = λ z. walk_stop source source_lawful limit d End.Exact (sym (sees-end source limit d (w.none z) z));
+          (sym (sees_oversize source limit d (total_of d) (w.six l v) t));
+      cut_header = λ l v f. walk_stop source source_lawful limit d (End.Cut (length d)) (sym (sees_few source limit d (w.few l v f) (omega arith)));
+      cut = λ l v t n. walk_stop source source_lawful limit d (End.Cut (length d)) (sym (sees_cut source limit d (total_of d) (w.six l v) t n));
+      exact = λ z. walk_stop source source_lawful limit d End.Exact (sym (sees_end source limit d (w.none z) z));
     }
 
 walk_same : (limit : ℕ) (d : List ℕ) (w v : Walked) → WalkInWords limit d w → WalkInWords limit d v → w ≡ v
@@ -362,14 +362,14 @@ walk_in_words limit d w = (λ e. rw e (walk_words limit d), λ p. walk_same limi
 
 -- a walk that ends Oversize ends in no other way, and one without whole packets has none at its front
 module _ {e : End} {r : ℕ} (over : e ≡ End.Oversize r) where
-  not-exact : e ≡ End.Exact → ⊥
-  not-exact q = let z : ◌≡◌ {A = ℕ} 0 1 = cc in omega arith
+  not_exact : e ≡ End.Exact → ⊥
+  not_exact q = let z : ◌≡◌ {A = ℕ} 0 1 = cc in omega arith
 
-  not-foreign : e ≡ End.Foreign → ⊥
-  not-foreign q = let z : ◌≡◌ {A = ℕ} 0 1 = cc in omega arith
+  not_foreign : e ≡ End.Foreign → ⊥
+  not_foreign q = let z : ◌≡◌ {A = ℕ} 0 1 = cc in omega arith
 
-  not-cut : (k : ℕ) → e ≡ End.Cut k → ⊥
-  not-cut k q = let z : ◌≡◌ {A = ℕ} 0 1 = cc in omega arith
+  not_cut : (k : ℕ) → e ≡ End.Cut k → ⊥
+  not_cut k q = let z : ◌≡◌ {A = ℕ} 0 1 = cc in omega arith
 
 not_whole : {p : List ℕ} {ps whole : List (List ℕ)} → whole ≡ [] → whole ≡ p ∷ ps → ⊥
 not_whole e f = let z = ap length (sym e ∙ f) in omega arith
@@ -385,11 +385,11 @@ over_six limit d r over = first (dec_le 6 (length d))
     ends e = ap (λ (v : Walked). v.end) e
 
     third : 1 ≤ length d → length d < 6 → Dec (version_of d ≡ 0) → ⊥
-    third s l (yes z) = not-cut over (length d) (ends (w.cut_header s z l))
-    third s l (no z) = not-foreign over (ends (w.foreign s z))
+    third s l (yes z) = not_cut over (length d) (ends (w.cut_header s z l))
+    third s l (no z) = not_foreign over (ends (w.foreign s z))
 
     second : length d < 6 → Dec (length d ≡ 0) → ⊥
-    second l (yes z) = not-exact over (ends (w.exact z))
+    second l (yes z) = not_exact over (ends (w.exact z))
     second l (no z) = third (omega arith) l (ℕ_discrete (version_of d) 0)
 
     first : Dec (6 ≤ length d) → 6 ≤ length d
@@ -421,12 +421,12 @@ oversize_at_six limit part field c k r follows gathers none over =
     held-six : 6 ≤ k → Dec (total_of (take k part) ≤ length d) → ⊥
     held-six l (yes n) =
         let t = within l in
-        let w = walk_whole source source_lawful limit d (total_of (take k part)) (sym (sees-packet source limit d _ t.0 t.1 n)) in
+        let w = walk_whole source source_lawful limit d (total_of (take k part)) (sym (sees_packet source limit d _ t.0 t.1 n)) in
         not_whole none (ap (λ (v : Walked). v.whole) w)
     held-six l (no n) =
         let t = within l in
-        let w = walk_stop source source_lawful limit d (End.Cut (length d)) (sym (sees-cut source limit d _ t.0 t.1 (omega arith))) in
-        not-cut over (length d) (ap (λ (v : Walked). v.end) w)
+        let w = walk_stop source source_lawful limit d (End.Cut (length d)) (sym (sees_cut source limit d _ t.0 t.1 (omega arith))) in
+        not_cut over (length d) (ap (λ (v : Walked). v.end) w)
 
     below : Dec (k < 6) → k < 6
     below (yes l) = l

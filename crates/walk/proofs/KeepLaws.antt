@@ -19,11 +19,11 @@ use Rattle.channel.specs.Rules.{judged, state_follows, hunts, channel_follows}
 use Rattle.channel.specs.declared.state.Channel.{Channel}
 use Rattle.channel.specs.declared.state.State.{State}
 use Rattle.channel.specs.declared.state.State.TheVariants.{Hunting, Gathering, Skipping}
-use Rattle.channel.proofs.RuleLaws.{both, and, gathers-from}
+use Rattle.channel.proofs.RuleLaws.{both, and, gathers_from}
 use Rattle.walk.specs.declared.walking.End.{End}
 use Rattle.walk.specs.Steps.{hunted, called_at, agrees, gathered, skipped, resumed, gap_for, carries_none, steps_of}
 use Rattle.walk.specs.Walk.{Done, only, ended_by, ended, walk_of, handed_all}
-use Rattle.walk.proofs.EndLaws.{EndFollows, walk-follows, held-follows}
+use Rattle.walk.proofs.EndLaws.{EndFollows, walk_follows, held_follows}
 use Rattle.octets.proofs.OctetLaws.{octets_drop}
 use Rattle.walk.proofs.WalkLaws.{walk_fits}
 
@@ -58,26 +58,26 @@ module _ (F : Family) (laws : Lawful F) (limit : ℕ) (O : Type 0) (room : ℕ) 
   unfolding handed_all
   nothing s h = record { short = omega arith; octets = λ o i. omega arith; hands = omega arith; keeps = λ part o. h (laid part 0 []) o }
 
-  ended_by : (e : End) (whole : List (List ℕ)) (rest : List ℕ) → length (handed_all F whole) ≤ room → EndFollows F limit O e rest
+  ended_by_lem : (e : End) (whole : List (List ℕ)) (rest : List ℕ) → length (handed_all F whole) ≤ room → EndFollows F limit O e rest
       → LeavesBy F limit O room (ended_by e whole rest)
   unfolding ended_by state_follows judged laid
-  ended_by End.Foreign whole rest h f = record { short = omega arith; octets = λ o i. omega arith; hands = h; keeps = λ part o. refl }
-  ended_by End.Exact whole rest h f =
+  ended_by_lem End.Foreign whole rest h f = record { short = omega arith; octets = λ o i. omega arith; hands = h; keeps = λ part o. refl }
+  ended_by_lem End.Exact whole rest h f =
       record {
         short = omega arith;
         octets = λ o i. omega arith;
         hands = h;
-        keeps = λ part o. gathers-from F limit (laid part 0 []) 0 (omega (arith, laws.header_tells [] laws.empty_waits)) (omega arith) (rw laws.empty_waits);
+        keeps = λ part o. gathers_from F limit (laid part 0 []) 0 (omega (arith, laws.header_tells [] laws.empty_waits)) (omega arith) (rw laws.empty_waits);
       }
-  ended_by (End.Cut k) whole rest h f =
+  ended_by_lem (End.Cut k) whole rest h f =
       record {
         short = omega arith;
         octets = f.3;
         hands = h;
-        keeps = λ part o. gathers-from F limit (laid part 0 rest) k f.1 (omega (arith, f.0, length-append rest (drop (0 + length rest) part)))
+        keeps = λ part o. gathers_from F limit (laid part 0 rest) k f.1 (omega (arith, f.0, length-append rest (drop (0 + length rest) part)))
             (rw (take_at rest (drop (0 + length rest) part) k f.0) f.2);
       }
-  ended_by (End.Oversize r) whole rest h f =
+  ended_by_lem (End.Oversize r) whole rest h f =
       record {
         short = omega arith;
         octets = λ o i. omega arith;
@@ -87,7 +87,7 @@ module _ (F : Family) (laws : Lawful F) (limit : ℕ) (O : Type 0) (room : ℕ) 
 
   -- a walk over a run that is no longer than the limit, and a hunt in a field
   run : (d : List ℕ) → length d ≤ limit → length d ≤ room → (O → Octets d) → LeavesBy F limit O room (ended (walk_of F limit d))
-  run d l r o = ended_by _ _ _ (omega (arith, walk_fits F laws limit d)) (walk-follows F laws limit O wide d l o)
+  run d l r o = ended_by_lem _ _ _ (omega (arith, walk_fits F laws limit d)) (walk_follows F laws limit O wide d l o)
 
   hunt : (field : List ℕ) (pointer : ℕ) → length field ≤ limit → length field ≤ room → (O → Octets field)
       → LeavesBy F limit O room (hunted F limit field pointer)
@@ -105,8 +105,8 @@ module _ (F : Family) (laws : Lawful F) (limit : ℕ) (O : Type 0) (room : ℕ) 
     resume pointer (Gathering k) e =
         let w = walk_fits F laws limit (take k part ++ field) in
         either (LeavesBy F limit O room) (agrees (length field) k (F.size (take k part ++ field)) pointer)
-        (ended_by _ _ _ (omega (arith, w, length-append (take k part) field, length-take k part))
-        (held-follows F laws limit O wide k part field whole_part few e op of))
+        (ended_by_lem _ _ _ (omega (arith, w, length-append (take k part) field, length-take k part))
+        (held_follows F laws limit O wide k part field whole_part few e op of))
         (hunt field pointer (omega arith) (omega arith) of)
     resume pointer (Skipping r) e =
         either (LeavesBy F limit O room) (eqb pointer (called_at (length field) r)) (go (leb r (length field)) refl)
@@ -125,9 +125,9 @@ module _ (F : Family) (laws : Lawful F) (limit : ℕ) (O : Type 0) (room : ℕ) 
             (le-leb (r - length field) F.most_skip (omega (arith, leb-true r F.most_skip t.1))))
 
     -- steps 1 to 5 of a frame of a channel that keeps the rules
-    pub steps-leave : (h : Header) (c : Channel) → channel_follows F limit part c ≡ true → LeavesBy F limit O room (steps_of F limit part field h c)
+    pub steps_leave : (h : Header) (c : Channel) → channel_follows F limit part c ≡ true → LeavesBy F limit O room (steps_of F limit part field h c)
     unfolding steps_of state_follows
-    steps-leave h c e =
+    steps_leave h c e =
         either (LeavesBy F limit O room) (carries_none h) (nothing Hunting (λ part o. refl))
         (either (LeavesBy F limit O room) (not (eqb (gap_for c h) 0)) (hunt field h.pointer (omega arith) (omega arith) of)
         (resume h.pointer c.state (state_follows F limit part c e)))

@@ -26,13 +26,13 @@ use Rattle.walk.specs.Walk.{no_tally, walk_of, ended, only}
 
 -- the pointer that an end calls for
 module _ (D end : ℕ) where
-  pub called-within : end < D → end ≡ called_at D end
+  pub called_within : end < D → end ≡ called_at D end
   unfolding called_at
-  called-within h = rw (lt-ltb end D h)
+  called_within h = rw (lt-ltb end D h)
 
-  pub called-none : D ≤ end → none_starts ≡ called_at D end
+  pub called_none : D ≤ end → none_starts ≡ called_at D end
   unfolding called_at
-  called-none h = rw (le-ltb end D h)
+  called_none h = rw (le-ltb end D h)
 
 -- the pointer agrees, by the number of held octets and the size that is told
 module _ (D k pointer : ℕ) (s : Size) where
@@ -45,9 +45,9 @@ module _ (D k pointer : ℕ) (s : Size) where
     unfolding agrees agrees_by
     agrees_wait e = rw (ne_eqb k 0 h, e)
 
-    pub agrees-foreign : s ≡ Foreign → true ≡ agrees D k s pointer
+    pub agrees_foreign : s ≡ Foreign → true ≡ agrees D k s pointer
     unfolding agrees agrees_by
-    agrees-foreign e = rw (ne_eqb k 0 h, e)
+    agrees_foreign e = rw (ne_eqb k 0 h, e)
 
     pub agrees_total : (n called end : ℕ) → s ≡ Total n → called ≡ called_at D end → end ≡ n - k
         → eqb pointer called ≡ agrees D k s pointer
@@ -76,48 +76,48 @@ module _ (F : Family) (limit : ℕ) (field : List ℕ) (pointer : ℕ) where
   unfolding hunted
   hunted_none h = rw (eq-eqb pointer none_starts h)
 
-  pub hunted-from : (pointer ≡ none_starts → ⊥) → hunted F limit field pointer ≡ ended (walk_of F limit (drop pointer field))
+  pub hunted_from : (pointer ≡ none_starts → ⊥) → hunted F limit field pointer ≡ ended (walk_of F limit (drop pointer field))
   unfolding hunted
-  hunted-from h = rw (ne_eqb pointer none_starts h)
+  hunted_from h = rw (ne_eqb pointer none_starts h)
 
 -- step 3
 module _ (F : Family) (limit : ℕ) (part field : List ℕ) (pointer : ℕ) where
-  pub gathers-on : (k : ℕ) → agrees (length field) k (F.size (take k part ++ field)) pointer ≡ true
+  pub gathers_on : (k : ℕ) → agrees (length field) k (F.size (take k part ++ field)) pointer ≡ true
       → resumed F limit part field pointer (Gathering k) ≡ ended (walk_of F limit (take k part ++ field))
   unfolding resumed gathered
-  gathers-on k e = rw e
+  gathers_on k e = rw e
 
-  pub gathers-apart : (k : ℕ) → agrees (length field) k (F.size (take k part ++ field)) pointer ≡ false
+  pub gathers_apart : (k : ℕ) → agrees (length field) k (F.size (take k part ++ field)) pointer ≡ false
       → resumed F limit part field pointer (Gathering k) ≡ disagreed (Gathering k) (hunted F limit field pointer)
   unfolding resumed gathered
-  gathers-apart k e = rw e
+  gathers_apart k e = rw e
 
   module _ (r : ℕ) where
-    pub skips-apart : (pointer ≡ called_at (length field) r → ⊥)
+    pub skips_apart : (pointer ≡ called_at (length field) r → ⊥)
         → resumed F limit part field pointer (Skipping r) ≡ disagreed (Skipping r) (hunted F limit field pointer)
     unfolding resumed skipped
-    skips-apart h = rw (ne_eqb pointer (called_at (length field) r) h)
+    skips_apart h = rw (ne_eqb pointer (called_at (length field) r) h)
 
-    pub skips-on : pointer ≡ called_at (length field) r → length field < r
+    pub skips_on : pointer ≡ called_at (length field) r → length field < r
         → resumed F limit part field pointer (Skipping r) ≡ only (Skipping (r - length field))
     unfolding resumed skipped
-    skips-on e h = rw (eq-eqb pointer (called_at (length field) r) e, lt-leb r (length field) h)
+    skips_on e h = rw (eq-eqb pointer (called_at (length field) r) e, lt-leb r (length field) h)
 
-    pub skips-out : pointer ≡ called_at (length field) r → r ≤ length field
+    pub skips_out_lem : pointer ≡ called_at (length field) r → r ≤ length field
         → resumed F limit part field pointer (Skipping r) ≡ ended (walk_of F limit (drop r field))
     unfolding resumed skipped
-    skips-out e h = rw (eq-eqb pointer (called_at (length field) r) e, le-leb r (length field) h)
+    skips_out_lem e h = rw (eq-eqb pointer (called_at (length field) r) e, le-leb r (length field) h)
 
 -- step 2
 module _ (F : Family) (limit : ℕ) (part field : List ℕ) (h : Header) (c : Channel) where
-  pub steps-none : carries_none h ≡ true → steps_of F limit part field h c ≡ broke c.state (only Hunting)
+  pub steps_none : carries_none h ≡ true → steps_of F limit part field h c ≡ broke c.state (only Hunting)
   unfolding steps_of
-  steps-none e = rw e
+  steps_none e = rw e
 
   module _ (e : carries_none h ≡ false) where
-    pub steps-gap : (gap_for c h ≡ 0 → ⊥) → steps_of F limit part field h c ≡ broke c.state (hunted F limit field h.pointer)
+    pub steps_gap : (gap_for c h ≡ 0 → ⊥) → steps_of F limit part field h c ≡ broke c.state (hunted F limit field h.pointer)
     unfolding steps_of
-    steps-gap g = rw (e, ne_eqb (gap_for c h) 0 g)
+    steps_gap g = rw (e, ne_eqb (gap_for c h) 0 g)
 
     pub steps_on : gap_for c h ≡ 0 → steps_of F limit part field h c ≡ resumed F limit part field h.pointer c.state
     unfolding steps_of

@@ -206,30 +206,30 @@ delivered_output F out p at e = rw e
 
 -- what stands at the front, case by case
 module _ (F : Family) (limit : ℕ) (d : List ℕ) where
-  pub sees-foreign : F.size d ≡ Foreign → Stop End.Foreign ≡ seen_of F limit d
+  pub sees_foreign : F.size d ≡ Foreign → Stop End.Foreign ≡ seen_of F limit d
   unfolding seen_of front
-  sees-foreign e = rw e
+  sees_foreign e = rw e
 
-  pub sees-end : F.size d ≡ Wait → length d ≡ 0 → Stop End.Exact ≡ seen_of F limit d
+  pub sees_end : F.size d ≡ Wait → length d ≡ 0 → Stop End.Exact ≡ seen_of F limit d
   unfolding seen_of front
-  sees-end e h = rw (e, h)
+  sees_end e h = rw (e, h)
 
-  pub sees-few : F.size d ≡ Wait → (length d ≡ 0 → ⊥) → Stop (End.Cut (length d)) ≡ seen_of F limit d
+  pub sees_few : F.size d ≡ Wait → (length d ≡ 0 → ⊥) → Stop (End.Cut (length d)) ≡ seen_of F limit d
   unfolding seen_of front
-  sees-few e h = rw (e, ne_eqb (length d) 0 h)
+  sees_few e h = rw (e, ne_eqb (length d) 0 h)
 
   module _ (n : ℕ) (e : F.size d ≡ Total n) where
-    pub sees-oversize : limit < n → Stop (End.Oversize (n - length d)) ≡ seen_of F limit d
+    pub sees_oversize : limit < n → Stop (End.Oversize (n - length d)) ≡ seen_of F limit d
     unfolding seen_of front
-    sees-oversize h = rw (e, lt-ltb limit n h)
+    sees_oversize h = rw (e, lt-ltb limit n h)
 
-    pub sees-packet : n ≤ limit → n ≤ length d → Whole n ≡ seen_of F limit d
+    pub sees_packet : n ≤ limit → n ≤ length d → Whole n ≡ seen_of F limit d
     unfolding seen_of front
-    sees-packet h k = rw (e, le-ltb limit n h, le-leb n (length d) k)
+    sees_packet h k = rw (e, le-ltb limit n h, le-leb n (length d) k)
 
-    pub sees-cut : n ≤ limit → length d < n → Stop (End.Cut (length d)) ≡ seen_of F limit d
+    pub sees_cut : n ≤ limit → length d < n → Stop (End.Cut (length d)) ≡ seen_of F limit d
     unfolding seen_of front
-    sees-cut h k = rw (e, le-ltb limit n h, lt-leb n (length d) k)
+    sees_cut h k = rw (e, le-ltb limit n h, lt-leb n (length d) k)
 
 -- the whole of what is left of the field is looked at
 pub looked : (F : Family) (limit : ℕ) (field : List ℕ) (at : ℕ) (s : Seen) → s ≡ seen_of F limit (take (length field - at) (drop at field))
@@ -248,9 +248,9 @@ pub record Kept (F : Family) (limit : ℕ) (field : List ℕ) (from : ℕ) (out�
   pub counts : t.delivered + t.idle + (length field - at) ≤ length out₀
 
 module _ (F : Family) (laws : Lawful F) (limit : ℕ) (field : List ℕ) (from : ℕ) (out₀ : List ℕ) (t₀ : Tally) where
-  pub kept-start : from ≤ length field → t₀.filled + (length field - from) ≤ length out₀
+  pub kept_start : from ≤ length field → t₀.filled + (length field - from) ≤ length out₀
       → t₀.delivered + t₀.idle + (length field - from) ≤ length out₀ → Kept F limit field from out₀ t₀ out₀ t₀ from
-  kept-start h r c = record { inside = h; length_kept = refl; same = refl; output = refl; room = r; counts = c }
+  kept_start h r c = record { inside = h; length_kept = refl; same = refl; output = refl; room = r; counts = c }
 
   module _ (out : List ℕ) (t : Tally) (at : ℕ) (k : Kept F limit field from out₀ t₀ out t at) where
     -- a whole packet was handed out
@@ -281,10 +281,10 @@ module _ (F : Family) (laws : Lawful F) (limit : ℕ) (field : List ℕ) (from :
         }
 
     -- the walk ended
-    pub kept-end : (e : End) → seen_of F limit (drop at field) ≡ Stop e
+    pub kept_end : (e : End) → seen_of F limit (drop at field) ≡ Stop e
         → (record { tally = t; end = e } ≡ ended_with F t₀ (walk_of F limit (drop from field)))
         × (out ≡ laid out₀ t₀.filled (handed_all F (walk_of F limit (drop from field)).whole))
-    kept-end e s = (
+    kept_end e s = (
       ended_with_stop F laws limit t (drop at field) e s ∙ k.same,
       output_stop F laws limit (drop at field) out e t.filled s ∙ k.output,
     )

@@ -20,7 +20,7 @@ use Rattle.walk.specs.Steps.{agrees, broke, broken_by, called_at, disagreed, hun
 use Rattle.walk.specs.Theorems.{Agrees, Alike, CallsFor, EndsIn, UnderWay, Walks}
 use Rattle.walk.specs.Walk.{Done, ended, ended_by, only, walk_of}
 use Rattle.walk.proofs.DoneLaws.{whole_by}
-use Rattle.walk.proofs.StepLaws.{agrees-foreign, agrees_start, agrees_total, agrees_wait, called-none, called-within, gathers-apart, gathers-on, hunted-from, hunted_none, skips-apart, skips-on, skips-out}
+use Rattle.walk.proofs.StepLaws.{agrees_foreign, agrees_start, agrees_total, agrees_wait, called_none, called_within, gathers_apart, gathers_on, hunted_from, hunted_none, skips_apart, skips_on, skips_out_lem}
 
 -- a state is of one variant, with one number
 pub clash : {A : Type 0} → ◌≡◌ {A = ℕ} 0 1 → A
@@ -72,14 +72,14 @@ breaks_none (Skipping r) n = absurd (n tt)
 -- the pointer that an end calls for
 module _ (D end pointer : ℕ) where
   calls : pointer ≡ called_at D end → CallsFor D end pointer
-  calls e = record { below = λ h. e ∙ sym (called-within D end h); beyond = λ h. e ∙ sym (called-none D end h) }
+  calls e = record { below = λ h. e ∙ sym (called_within D end h); beyond = λ h. e ∙ sym (called_none D end h) }
 
   called : CallsFor D end pointer → pointer ≡ called_at D end
   called c = go (dec_lt end D)
     where
       go : Dec (end < D) → pointer ≡ called_at D end
-      go (yes h) = c.below h ∙ called-within D end h
-      go (no h) = c.beyond (omega arith) ∙ called-none D end (omega arith)
+      go (yes h) = c.below h ∙ called_within D end h
+      go (no h) = c.beyond (omega arith) ∙ called_none D end (omega arith)
 
 -- the test of the pointer, by the state
 unfoldable pub agreed : Family → List ℕ → List ℕ → State → ℕ → Bool
@@ -88,23 +88,23 @@ agreed F part field (Gathering k) pointer = agrees (length field) k (F.size (tak
 agreed F part field (Skipping r) pointer = eqb pointer (called_at (length field) r)
 
 module _ (F : Family) (part field : List ℕ) (pointer : ℕ) where
-  between-calls : (k : ℕ) → agrees (length field) k (F.size (take k part ++ field)) pointer ≡ true → k ≡ 0 → CallsFor (length field) 0 pointer
-  between-calls k t z =
+  between_calls : (k : ℕ) → agrees (length field) k (F.size (take k part ++ field)) pointer ≡ true → k ≡ 0 → CallsFor (length field) 0 pointer
+  between_calls k t z =
       calls (length field) 0 pointer
       (eqb-true pointer (called_at (length field) 0)
       (agrees_start (length field) k pointer (F.size (take k part ++ field)) (called_at (length field) 0) refl z ∙ t))
 
-  known-calls : (k n : ℕ) → agrees (length field) k (F.size (take k part ++ field)) pointer ≡ true → 1 ≤ k
+  known_calls : (k n : ℕ) → agrees (length field) k (F.size (take k part ++ field)) pointer ≡ true → 1 ≤ k
       → F.size (take k part ++ field) ≡ Total n → CallsFor (length field) (n - k) pointer
-  known-calls k n t some e =
+  known_calls k n t some e =
       calls (length field) (n - k) pointer
       (eqb-true pointer (called_at (length field) (n - k))
       (agrees_total (length field) k pointer (F.size (take k part ++ field)) (omega arith) n (called_at (length field) (n - k)) (n - k) e refl refl
       ∙ t))
 
-  unknown-calls : (k : ℕ) → agrees (length field) k (F.size (take k part ++ field)) pointer ≡ true → 1 ≤ k
+  unknown_calls : (k : ℕ) → agrees (length field) k (F.size (take k part ++ field)) pointer ≡ true → 1 ≤ k
       → F.size (take k part ++ field) ≡ Wait → pointer ≡ 2047
-  unknown-calls k t some e =
+  unknown_calls k t some e =
       eqb-true pointer 2047 (agrees_wait (length field) k pointer (F.size (take k part ++ field)) (omega arith) e ∙ t)
 
   pub sound : (s : State) → agreed F part field s pointer ≡ true → Agrees F part field s pointer
@@ -118,9 +118,9 @@ module _ (F : Family) (part field : List ℕ) (pointer : ℕ) where
       }
   sound (Gathering k) t =
       record {
-        between = λ e. between-calls k t (sym (gathering_same e));
-        known = λ m n e. rw (gathering_same e) (known-calls k n t);
-        unknown = λ m e. rw (gathering_same e) (unknown-calls k t);
+        between = λ e. between_calls k t (sym (gathering_same e));
+        known = λ m n e. rw (gathering_same e) (known_calls k n t);
+        unknown = λ m e. rw (gathering_same e) (unknown_calls k t);
         skipping = λ r e. gathering_skipping e;
       }
   sound (Skipping r) t =
@@ -141,7 +141,7 @@ module _ (F : Family) (part field : List ℕ) (pointer : ℕ) where
       by n Wait e =
           sym (agrees_wait (length field) k pointer (F.size (take k part ++ field)) n e)
           ∙ eq-eqb pointer 2047 (a.unknown k refl (omega arith) e)
-      by n Foreign e = sym (agrees-foreign (length field) k pointer (F.size (take k part ++ field)) n e)
+      by n Foreign e = sym (agrees_foreign (length field) k pointer (F.size (take k part ++ field)) n e)
       by n (Total m) e =
           sym (agrees_total (length field) k pointer (F.size (take k part ++ field)) n m (called_at (length field) (m - k)) (m - k) e refl refl)
           ∙ eq-eqb pointer (called_at (length field) (m - k)) (called (length field) (m - k) pointer (a.known k m refl (omega arith) e))
@@ -157,8 +157,8 @@ module _ (F : Family) (part field : List ℕ) (pointer : ℕ) where
   pub apart : (s : State) → agreed F part field s pointer ≡ false → Agrees F part field s pointer → ⊥
   apart s e a = false≢true (sym e ∙ complete s a)
 
-  pub agrees? : (s : State) → Dec (Agrees F part field s pointer)
-  agrees? s = go (agreed F part field s pointer) refl
+  pub agrees_or_not : (s : State) → Dec (Agrees F part field s pointer)
+  agrees_or_not s = go (agreed F part field s pointer) refl
     where
       go : (b : Bool) → agreed F part field s pointer ≡ b → Dec (Agrees F part field s pointer)
       go true e = yes (sound s e)
@@ -219,8 +219,8 @@ pub alike_disagreed : (s : State) (d : Done) → Alike d (disagreed s d)
 alike_disagreed s d = record { state = refl; held = refl; whole = refl; foreign = refl; oversize = refl }
 
 module _ (F : Family) (limit : ℕ) (run : List ℕ) where
-  pub walks-alike : {d e : Done} → Walks F limit run d → Walks F limit run e → Alike d e
-  walks-alike {d} {e} p q = go (walk_of F limit run).end refl
+  pub walks_alike : {d e : Done} → Walks F limit run d → Walks F limit run e → Alike d e
+  walks_alike {d} {e} p q = go (walk_of F limit run).end refl
     where
       whole : d.whole ≡ e.whole
       whole = p.whole ∙ sym q.whole
@@ -231,8 +231,8 @@ module _ (F : Family) (limit : ℕ) (run : List ℕ) where
       go (End.Cut k) z = left_alike whole (p.cut k z) (q.cut k z)
       go (End.Oversize r) z = left_alike whole (p.oversize r z) (q.oversize r z)
 
-  pub walks-as : {d e : Done} → Alike d e → Walks F limit run d → Walks F limit run e
-  walks-as a p =
+  pub walks_as : {d e : Done} → Alike d e → Walks F limit run d → Walks F limit run e
+  walks_as a p =
       record {
         whole = sym a.whole ∙ p.whole;
         foreign = λ z. left_as a (p.foreign z);
@@ -255,45 +255,45 @@ module _ (F : Family) (limit : ℕ) (run : List ℕ) where
 
 -- step 4
 module _ (F : Family) (limit : ℕ) (field : List ℕ) (pointer : ℕ) where
-  pub hunt-ends : pointer ≡ 2047 → EndsIn Hunting (hunted F limit field pointer)
-  hunt-ends e = rw (hunted_none F limit field pointer e) (ends_only Hunting)
+  pub hunt_ends : pointer ≡ 2047 → EndsIn Hunting (hunted F limit field pointer)
+  hunt_ends e = rw (hunted_none F limit field pointer e) (ends_only Hunting)
 
-  pub hunt-walks : (pointer ≡ 2047 → ⊥) → Walks F limit (drop pointer field) (hunted F limit field pointer)
-  hunt-walks n = rw (hunted-from F limit field pointer n) (walks F limit (drop pointer field))
+  pub hunt_walks : (pointer ≡ 2047 → ⊥) → Walks F limit (drop pointer field) (hunted F limit field pointer)
+  hunt_walks n = rw (hunted_from F limit field pointer n) (walks F limit (drop pointer field))
 
-  pub hunt-zero : ((hunted F limit field pointer).broken ≡ 0) × ((hunted F limit field pointer).disagreement ≡ 0)
-  hunt-zero = go (ℕ_discrete pointer 2047)
+  pub hunt_zero : ((hunted F limit field pointer).broken ≡ 0) × ((hunted F limit field pointer).disagreement ≡ 0)
+  hunt_zero = go (ℕ_discrete pointer 2047)
     where
       go : Dec (pointer ≡ 2047) → ((hunted F limit field pointer).broken ≡ 0) × ((hunted F limit field pointer).disagreement ≡ 0)
       go (yes e) = rw (hunted_none F limit field pointer e) (refl, refl)
-      go (no n) = rw (hunted-from F limit field pointer n) (ended_zero _ _ _)
+      go (no n) = rw (hunted_from F limit field pointer n) (ended_zero _ _ _)
 
 -- steps 3 to 5, by the pointer's test
 module _ (F : Family) (limit : ℕ) (part field : List ℕ) (pointer : ℕ) where
-  pub on-gathering : (k : ℕ) → agreed F part field (Gathering k) pointer ≡ true
+  pub on_gathering : (k : ℕ) → agreed F part field (Gathering k) pointer ≡ true
       → resumed F limit part field pointer (Gathering k) ≡ ended (walk_of F limit (take k part ++ field))
   unfolding agreed
-  on-gathering k t = gathers-on F limit part field pointer k t
+  on_gathering k t = gathers_on F limit part field pointer k t
 
-  pub skip-called : (r : ℕ) → agreed F part field (Skipping r) pointer ≡ true → pointer ≡ called_at (length field) r
+  pub skip_called : (r : ℕ) → agreed F part field (Skipping r) pointer ≡ true → pointer ≡ called_at (length field) r
   unfolding agreed
-  skip-called r t = eqb-true pointer (called_at (length field) r) t
+  skip_called r t = eqb-true pointer (called_at (length field) r) t
 
-  pub on-zero : (s : State) → agreed F part field s pointer ≡ true
+  pub on_zero : (s : State) → agreed F part field s pointer ≡ true
       → ((resumed F limit part field pointer s).broken ≡ 0) × ((resumed F limit part field pointer s).disagreement ≡ 0)
   unfolding resumed
-  on-zero Hunting t = hunt-zero F limit field pointer
-  on-zero (Gathering k) t = rw (on-gathering k t) (ended_zero _ _ _)
-  on-zero (Skipping r) t = go (dec_le r (length field))
+  on_zero Hunting t = hunt_zero F limit field pointer
+  on_zero (Gathering k) t = rw (on_gathering k t) (ended_zero _ _ _)
+  on_zero (Skipping r) t = go (dec_le r (length field))
     where
       go : Dec (r ≤ length field)
           → ((resumed F limit part field pointer (Skipping r)).broken ≡ 0) × ((resumed F limit part field pointer (Skipping r)).disagreement ≡ 0)
-      go (yes l) = rw (skips-out F limit part field pointer r (skip-called r t) l) (ended_zero _ _ _)
-      go (no l) = rw (skips-on F limit part field pointer r (skip-called r t) (omega arith)) (refl, refl)
+      go (yes l) = rw (skips_out_lem F limit part field pointer r (skip_called r t) l) (ended_zero _ _ _)
+      go (no l) = rw (skips_on F limit part field pointer r (skip_called r t) (omega arith)) (refl, refl)
 
   pub off : (s : State) → agreed F part field s pointer ≡ false
       → resumed F limit part field pointer s ≡ disagreed s (hunted F limit field pointer)
   unfolding agreed
   off Hunting t = absurd (false≢true (sym t))
-  off (Gathering k) t = gathers-apart F limit part field pointer k t
-  off (Skipping r) t = skips-apart F limit part field pointer r (eqb-false pointer (called_at (length field) r) t)
+  off (Gathering k) t = gathers_apart F limit part field pointer k t
+  off (Skipping r) t = skips_apart F limit part field pointer r (eqb-false pointer (called_at (length field) r) t)

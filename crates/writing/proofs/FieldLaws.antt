@@ -39,18 +39,18 @@ module _ (D : ℕ) (run : List ℕ) (offset left : ℕ) (some : 1 ≤ D) (few : 
   nothing_placed : left ≡ 0 → offset ≡ length run → length (placed_part D run offset left) ≡ 0
   nothing_placed a b = omega (arith, length_placed D run offset left, length_left D left few, length_run D run offset left)
 
-  placed-nothing : length (placed_part D run offset left) ≡ 0 → (left ≡ 0) × (offset ≡ length run)
-  placed-nothing e =
+  placed_nothing : length (placed_part D run offset left) ≡ 0 → (left ≡ 0) × (offset ≡ length run)
+  placed_nothing e =
       let lp = length_placed D run offset left in
       let a : left ≡ 0 = omega (arith, length_left D left few) in
       (a, omega (arith, length_left D left few, length_run D run offset left))
 
-  pub nothing-exactly : nothing_of run offset left ≡ true ↔ placed_part D run offset left ≡ []
+  pub nothing_exactly : nothing_of run offset left ≡ true ↔ placed_part D run offset left ≡ []
   unfolding nothing_of
-  nothing-exactly = (
+  nothing_exactly = (
     λ e. let b = and_both (eqb left 0) (eqb offset (length run)) e in
         none_there (placed_part D run offset left) (nothing_placed (eqb-true left 0 b.0) (eqb-true offset (length run) b.1)),
-    λ e. let n = placed-nothing (ap length e) in rw (eq-eqb left 0 n.0, eq-eqb offset (length run) n.1),
+    λ e. let n = placed_nothing (ap length e) in rw (eq-eqb left 0 n.0, eq-eqb offset (length run) n.1),
   )
 
   -- a left-over that does not fit leaves no room for the run, and one that fits leaves over what the filler leaves
@@ -67,11 +67,11 @@ module _ (D : ℕ) (run : List ℕ) (offset left : ℕ) (some : 1 ≤ D) (few : 
   to_end h r = let a = all_left h in let p = length_placed D run offset left in omega (arith, length_run D run offset left)
 
   -- what is left over then: at most six, and nothing unless a left-over did not fit, or the run is at its end
-  pub left-then : (left_over_after D run offset left ≤ 6)
+  pub left_then : (left_over_after D run offset left ≤ 6)
       × ((left_over_after D run offset left ≡ 0)
       ⊎ (((left ≡ 0 → ⊥) × (length (run_part D run offset left) ≡ 0)) ⊎ (offset + length (run_part D run offset left) ≡ length run)))
   unfolding left_over_after
-  left-then = by (dec_lt D left)
+  left_then = by (dec_lt D left)
     where
       room : ℕ
       room = D - length (placed_part D run offset left)

@@ -36,31 +36,31 @@ abbrev pub around : ℕ → List ℕ → List ℕ → List ℕ
 around D out field = take 6 out ++ (field ++ drop (6 + D - 6) (drop 6 out))
 
 module _ (D : ℕ) (out : List ℕ) (h : 6 + D ≤ length out) where
-  pub length-midst : length (midst D out) ≡ D
-  length-midst = simp (length-take, length-drop) (omega arith)
+  pub length_midst : length (midst D out) ≡ D
+  length_midst = simp (length-take, length-drop) (omega arith)
 
   module _ (field : List ℕ) (l : length field ≡ D) where
-    length-around : length (around D out field) ≡ length out
-    length-around = simp (length-append, length-take, length-drop) (omega arith)
+    length_around : length (around D out field) ≡ length out
+    length_around = simp (length-append, length-take, length-drop) (omega arith)
 
-    field-around : take D (drop 6 (around D out field)) ≡ field
-    field-around =
+    field_around : take D (drop 6 (around D out field)) ≡ field
+    field_around =
         ap (take D) (drop_at (take 6 out) (field ++ drop (6 + D - 6) (drop 6 out)) 6 (length-take-le 6 out (omega arith)))
         ∙ take_at field (drop (6 + D - 6) (drop 6 out)) D l
 
 -- such an output is closed, to the frame around the field
 module _ (u : SetUp) (channel : ℕ) (m : MasterCount) (k : ChannelCount) (w : ControlWord) (pointer : ℕ) (out field : List ℕ) where
-  pub closed-around : fits_of u ≡ true → channel < 8 → length out ≡ u.length → length field ≡ close_size u w
+  pub closed_around : fits_of u ≡ true → channel < 8 → length out ≡ u.length → length field ≡ close_size u w
       → (close_of u channel (around (close_size u w) out field) ≡ Written)
       × (field_in u w (around (close_size u w) out field) ≡ field)
       × (output_of u channel m k w pointer (around (close_size u w) out field) ≡ frame_around u channel m k w pointer field)
   unfolding field_in
-  closed-around fits hc whole l =
+  closed_around fits hc whole l =
       let s = sizes u w fits in
       let h : 6 + close_size u w ≤ length out = omega arith in
       let o = around (close_size u w) out field in
-      let c = (close_passes u channel o).1 (fits, hc, length-around (close_size u w) out h field l ∙ whole) in
-      let f = field-around (close_size u w) out h field l in
+      let c = (close_passes u channel o).1 (fits, hc, length_around (close_size u w) out h field l ∙ whole) in
+      let f = field_around (close_size u w) out h field l in
       (c, f, close_around u channel m k w pointer o c ∙ ap (frame_around u channel m k w pointer) f)
 
 -- nothing at all is placed: no left-over, and the run at its end
@@ -69,9 +69,9 @@ module _ (run : List ℕ) (offset left : ℕ) (b : Bool) where
   unfolding nothing_of
   none_over h e = rw (eq-eqb left 0 h) e
 
-  pub some-over : (left ≡ 0 → ⊥) → b ≡ eqb left 0 → b ≡ nothing_of run offset left
+  pub some_over : (left ≡ 0 → ⊥) → b ≡ eqb left 0 → b ≡ nothing_of run offset left
   unfolding nothing_of
-  some-over h e = rw (ne_eqb left 0 h) (e ∙ ne_eqb left 0 h)
+  some_over h e = rw (ne_eqb left 0 h) (e ∙ ne_eqb left 0 h)
 
 -- what one call writes and hands on
 module _ (u : SetUp) (channel : ℕ) (p : Place) (w : ControlWord) (run out : List ℕ) (r : Ready u channel p run out) where
@@ -93,7 +93,7 @@ module _ (u : SetUp) (channel : ℕ) (p : Place) (w : ControlWord) (run out : Li
       → WroteBy u channel p w run Frame (record { offset = laid.offset; left_over = laid.left_over; master = m; count = k }) o
   unfolding next_place frame_written
   wrote_by D field o laid distance pointer nothing m k eD el ef en ed ep eo em ek =
-      let lm : length (midst D out) ≡ close_size u w = length-midst D out (omega (arith, fits_in)) ∙ eD in
+      let lm : length (midst D out) ≡ close_size u w = length_midst D out (omega (arith, fits_in)) ∙ eD in
       let q : pointer ≡ pointer_of (close_size u w) (distance_of run p.offset) p.left_over (nothing_of run p.offset p.left_over) =
       rw (eD, ed, en) at ep in
       let ef' : field ≡ field_of (close_size u w) run p.offset p.left_over =
@@ -109,7 +109,7 @@ module _ (u : SetUp) (channel : ℕ) (p : Place) (w : ControlWord) (run out : Li
         output_left =
             eo
             ∙ ap (λ (n : ℕ). output_of u channel p.master p.count w pointer (around n out field)) eD
-            ∙ (closed-around u channel p.master p.count w pointer out field r.fits r.channel_fits r.output_whole
+            ∙ (closed_around u channel p.master p.count w pointer out field r.fits r.channel_fits r.output_whole
             (ap length ef' ∙ length_field_lem (close_size u w) run p.offset p.left_over)).2
             ∙ ap₂ (frame_around u channel p.master p.count w) q ef';
       }

@@ -15,7 +15,7 @@ use Rattle.frame.specs.Opening.{open_of}
 use Rattle.frame.specs.declared.set_up.SetUp.{SetUp}
 use Rattle.frame.proofs.ClosingLaws.{sizes}
 use Rattle.frame.proofs.Laws.{closed_opens}
-use Rattle.table.proofs.Laws.{first-exactly, first_gives, none-exactly, none-gives, made}
+use Rattle.table.proofs.Laws.{first_exactly, first_gives, none_exactly, none_gives, made}
 use Rattle.packet.specs.Chain.{distance_of}
 use Rattle.packet.specs.Header.{packet_header}
 use Rattle.writing.specs.declared.Answer.TheVariants.{Refused, Frame}
@@ -26,17 +26,17 @@ use Rattle.writing.specs.Laying.{idle_packet, left_over_after, nothing_of, run_p
 use Rattle.writing.specs.Theorems.{NumberExactly, WrittenExactly, RefusedUntouched, WrittenOpens, LaidWellLaw, idle_value, IdlePacketLaid, GoesOnLaw}
 use Rattle.writing.specs.Inside.{Ready}
 use Rattle.writing.specs.Writing.{row24, write_table, answer_of, next_of, output_of, next_place, frame_written, laid_field, laid_pointer}
-use Rattle.writing.proofs.FieldLaws.{points_well, nothing-exactly, left-then}
-use Rattle.writing.proofs.FrameLaws.{around, closed-around}
+use Rattle.writing.proofs.FieldLaws.{points_well, nothing_exactly, left_then}
+use Rattle.writing.proofs.FrameLaws.{around, closed_around}
 use Rattle.writing.proofs.LayingLaws.{length_field_lem, length_run}
 use Rattle.writing.proofs.NumberLaws.{case_back, number_one}
-use Rattle.writing.proofs.WritingSteps.{at-border, none_left, border-passes, passed, passing}
+use Rattle.writing.proofs.WritingSteps.{at_border, none_left, border_passes, passed, passing}
 
 pub number_exactly : NumberExactly
 unfolding answer_of values_of
 number_exactly u channel p w run out r =
     let t = write_table u channel p run out in
-    rw (made answer_number Refused Frame t) (first-exactly number_of 0 number_one (λ r e. omega (arith, (case_back r).1)) t r)
+    rw (made answer_number Refused Frame t) (first_exactly number_of 0 number_one (λ r e. omega (arith, (case_back r).1)) t r)
 
 -- a frame is not refused
 not_refused : (r : Refusal) → Frame ≡ Refused r → ⊥
@@ -45,14 +45,14 @@ not_refused r q = let z : ◌≡◌ {A = ℕ} 0 1 = cc in omega arith
 pub written_exactly : WrittenExactly
 unfolding answer_of
 written_exactly u channel p run out =
-    let n = none-exactly Refused Frame Frame (λ r q. not_refused r (sym q)) (write_table u channel p run out) in
+    let n = none_exactly Refused Frame Frame (λ r q. not_refused r (sym q)) (write_table u channel p run out) in
     (λ e. (n.0 e).1, λ h. n.1 (refl, h))
 
 pub refused_untouched : RefusedUntouched
 unfolding answer_of next_of output_of
 refused_untouched u channel p w run out r e =
     let t = write_table u channel p run out in
-    let f = (first-exactly Refused Frame (λ s r q. cc) not_refused t r).0 e in
+    let f = (first_exactly Refused Frame (λ s r q. cc) not_refused t r).0 e in
     (first_gives (λ _. p) (next_place u p w run) t r f, first_gives (λ _. out) (frame_written u channel p w run) t r f)
 
 module _ (u : SetUp) (channel : ℕ) (p : Place) (run out : List ℕ) (e : answer_of u channel p run out ≡ Frame) where
@@ -67,7 +67,7 @@ written_opens u channel p w run out e hm hk hw =
     let field = laid_field u w run p in
     let q = laid_pointer u w run p in
     let o = around D out field in
-    let c = closed-around u channel p.master p.count w q out field r.fits r.channel_fits r.output_whole
+    let c = closed_around u channel p.master p.count w q out field r.fits r.channel_fits r.output_whole
     (length_field_lem D run p.offset p.left_over) in
     let t = closed_opens u channel p.master p.count w q o c.0 hm hk hw
     (points_well D (distance_of run p.offset) p.left_over (nothing_of run p.offset p.left_over)) in
@@ -82,7 +82,7 @@ laid_well u channel p w run out e =
       some = some;
       filled = length_field_lem D run p.offset p.left_over;
       points = points_well D (distance_of run p.offset) p.left_over (nothing_of run p.offset p.left_over);
-      nothing = nothing-exactly D run p.offset p.left_over some r.left_fits r.inside;
+      nothing = nothing_exactly D run p.offset p.left_over some r.left_fits r.inside;
     }
 
 -- the left-over that is handed on stands at the start or the end of the run
@@ -91,8 +91,8 @@ handed_passes : (end offset left n left' : ℕ) → row24 end offset left ≡ fa
 handed_passes end offset left n left' e h (inl z) = sym (none_left end (offset + n) left' h z)
 handed_passes end offset left n left' e h (inr (inl k)) =
     let same : offset + n ≡ offset = omega (arith, k.1) in
-    rw same (border-passes end offset left' h (at-border end offset left e k.0))
-handed_passes end offset left n left' e h (inr (inr k)) = border-passes end (offset + n) left' h (inr k)
+    rw same (border_passes end offset left' h (at_border end offset left e k.0))
+handed_passes end offset left n left' e h (inr (inr k)) = border_passes end (offset + n) left' h (inr k)
 
 pub goes_on : GoesOnLaw
 unfolding next_place answer_of
@@ -101,10 +101,10 @@ goes_on u channel p w run out e =
     let r = t.0 in
     let D = close_size u w in
     let n : ℕ = length (run_part D run p.offset p.left_over) in
-    let l = left-then D run p.offset p.left_over (sizes u w r.fits).least r.left_fits r.inside in
+    let l = left_then D run p.offset p.left_over (sizes u w r.fits).least r.left_fits r.inside in
     let inside : p.offset + n ≤ length run = omega (arith, r.inside, length_run D run p.offset p.left_over) in
     record {
-      next_passes = none-gives Refused Frame (write_table u channel (next_place u p w run) run out)
+      next_passes = none_gives Refused Frame (write_table u channel (next_place u p w run) run out)
           (passed u channel (next_place u p w run) run out r.fits r.channel_fits r.run_fits r.chain inside
           (handed_passes (length run) p.offset p.left_over n (left_over_after D run p.offset p.left_over) t.1 l.0 l.1)
           r.output_whole);

@@ -113,26 +113,26 @@ abbrev pub Filled : List ℕ → ℕ → ℕ → List ℕ → Type 0
 Filled d at left d' = (left ≡ left_after at (length d - at)) × (d' ≡ laid d at (filler_of at (length d - at)))
 
 module _ (d : List ℕ) (at : ℕ) where
-  pub filled-few : (left : ℕ) (d' : List ℕ) → Filled d at left d' → left ≤ 6
-  filled-few left d' f = omega (arith, f.0, left_after_le at (length d - at))
+  pub filled_few : (left : ℕ) (d' : List ℕ) → Filled d at left d' → left ≤ 6
+  filled_few left d' f = omega (arith, f.0, left_after_le at (length d - at))
 
-  pub filled-idle : (d' : List ℕ) → at ≡ 0 → d' ≡ laid d 0 (replicate (length d - at) 0x55) → Filled d at 0 d'
+  pub filled_idle : (d' : List ℕ) → at ≡ 0 → d' ≡ laid d 0 (replicate (length d - at) 0x55) → Filled d at 0 d'
   unfolding left_after filler_of
-  filled-idle d' a e = rw (eq-eqb at 0 a) (refl, e ∙ ap (λ (n : ℕ). laid d n (replicate (length d - at) 0x55)) (sym a))
+  filled_idle d' a e = rw (eq-eqb at 0 a) (refl, e ∙ ap (λ (n : ℕ). laid d n (replicate (length d - at) 0x55)) (sym a))
 
   module _ (a : at ≡ 0 → ⊥) where
-    pub filled-packet : (d' : List ℕ) → 7 ≤ length d - at → d' ≡ laid d at (idle_packet (length d - at)) → Filled d at 0 d'
+    pub filled_packet : (d' : List ℕ) → 7 ≤ length d - at → d' ≡ laid d at (idle_packet (length d - at)) → Filled d at 0 d'
     unfolding left_after filler_of
-    filled-packet d' h e = rw (ne_eqb at 0 a, le-leb 7 (length d - at) h) (refl, e)
+    filled_packet d' h e = rw (ne_eqb at 0 a, le-leb 7 (length d - at) h) (refl, e)
 
     pub filled_none : length d - at ≡ 0 → Filled d at 0 d
     unfolding left_after filler_of
     filled_none e = rw (ne_eqb at 0 a, e) (refl, sym (laid_nil d at))
 
-    pub filled-begun : (d' : List ℕ) → length d - at < 7 → (length d - at ≡ 0 → ⊥) → d' ≡ laid d at (take (length d - at) short_idle)
+    pub filled_begun : (d' : List ℕ) → length d - at < 7 → (length d - at ≡ 0 → ⊥) → d' ≡ laid d at (take (length d - at) short_idle)
         → Filled d at (7 - (length d - at)) d'
     unfolding left_after filler_of
-    filled-begun d' h z e = rw (ne_eqb at 0 a, lt-leb 7 (length d - at) h, ne_eqb (length d - at) 0 z) (refl, e)
+    filled_begun d' h z e = rw (ne_eqb at 0 a, lt-leb 7 (length d - at) h, ne_eqb (length d - at) 0 z) (refl, e)
 
 -- what is placed fits into the field, and with the filler it is the field
 pub placed_fits : (D : ℕ) (run : List ℕ) (offset left : ℕ) → length (placed_part D run offset left) ≤ D
@@ -149,21 +149,21 @@ length_field_lem D run offset left =
 
 -- the parts laid one behind the other
 module _ (d run : List ℕ) (offset left : ℕ) where
-  run-laid : (d₁ d₂ : List ℕ) (placed : ℕ) → placed ≡ length (left_part (length d) left) → d₁ ≡ laid d 0 (left_part (length d) left)
+  run_laid : (d₁ d₂ : List ℕ) (placed : ℕ) → placed ≡ length (left_part (length d) left) → d₁ ≡ laid d 0 (left_part (length d) left)
       → d₂ ≡ laid d₁ placed (run_part (length d) run offset left) → d₂ ≡ laid d 0 (placed_part (length d) run offset left)
   unfolding placed_part
-  run-laid d₁ d₂ placed ep e₁ e₂ =
+  run_laid d₁ d₂ placed ep e₁ e₂ =
       e₂
       ∙ ap (λ (x : List ℕ). laid x placed (run_part (length d) run offset left)) e₁
       ∙ laid_behind d 0 placed (left_part (length d) left) (run_part (length d) run offset left)
       (omega (arith, left_fits (length d) left)) (omega arith)
 
-  filler-laid : (d₂ d₃ : List ℕ) (end begun : ℕ) → end ≡ length (placed_part (length d) run offset left)
+  filler_laid : (d₂ d₃ : List ℕ) (end begun : ℕ) → end ≡ length (placed_part (length d) run offset left)
       → d₂ ≡ laid d 0 (placed_part (length d) run offset left) → Filled d₂ end begun d₃
       → (begun ≡ left_after (length (placed_part (length d) run offset left)) (length d - length (placed_part (length d) run offset left)))
       × (d₃ ≡ field_of (length d) run offset left)
   unfolding field_of
-  filler-laid d₂ d₃ end begun ee e₂ e₃ =
+  filler_laid d₂ d₃ end begun ee e₂ e₃ =
       let p = placed_part (length d) run offset left in
       let f = filler_of (length p) (length d - length p) in
       let hp = placed_fits (length d) run offset left in
@@ -176,33 +176,33 @@ module _ (d run : List ℕ) (offset left : ℕ) where
             ∙ laid_last d (p ++ f) 0 (zero-add (length (p ++ f)) ∙ length_field_lem (length d) run offset left),
       )
 
-  pub field-laid : (d₁ d₂ d₃ : List ℕ) (placed n begun : ℕ) → left ≤ 6 → placed ≡ min left (length d)
+  pub field_laid : (d₁ d₂ d₃ : List ℕ) (placed n begun : ℕ) → left ≤ 6 → placed ≡ min left (length d)
       → n ≡ min (length run - offset) (length d₁ - placed) → d₁ ≡ laid d 0 (left_part (length d) left)
       → d₂ ≡ laid d₁ placed (take (offset + n - offset) (drop offset run)) → Filled d₂ (placed + n) begun d₃
       → ((offset + n ≡ offset + length (run_part (length d) run offset left)) × (left - placed + begun ≡ left_over_after (length d) run offset left))
       × (d₃ ≡ field_of (length d) run offset left)
   unfolding left_over_after
-  field-laid d₁ d₂ d₃ placed n begun hl ep en e₁ e₂ e₃ =
+  field_laid d₁ d₂ d₃ placed n begun hl ep en e₁ e₂ e₃ =
       let D : ℕ = length d in
       let a = left_part D left in
       let ea : placed ≡ length a = ep ∙ sym (length_left D left hl) in
       let l₁ : length d₁ ≡ D = ap length e₁ ∙ length_laid d 0 a (omega (arith, left_fits D left)) in
       let m : n ≡ min (length run - offset) (D - length a) = en ∙ ap₂ (λ (x y : ℕ). min (length run - offset) (x - y)) l₁ ea in
       let eb : n ≡ length (run_part D run offset left) = m ∙ sym (length_run D run offset left) in
-      let f = filler-laid d₂ d₃ (placed + n) begun
+      let f = filler_laid d₂ d₃ (placed + n) begun
       (ap₂ ◌+◌ ea eb ∙ sym (length_placed D run offset left))
-      (run-laid d₁ d₂ placed ea e₁ (e₂ ∙ ap (laid d₁ placed) (run_taken D run offset left n m))) e₃ in
+      (run_laid d₁ d₂ placed ea e₁ (e₂ ∙ ap (laid d₁ placed) (run_taken D run offset left n m))) e₃ in
       ((ap (λ (k : ℕ). offset + k) eb, ap₂ (λ (x y : ℕ). left - x + y) ea f.0), f.1)
 
 -- the pointer, case by case
 module _ (D distance left : ℕ) (nothing : Bool) where
-  pub points-idle : nothing ≡ true → idle_data ≡ pointer_of D distance left nothing
+  pub points_idle : nothing ≡ true → idle_data ≡ pointer_of D distance left nothing
   unfolding pointer_of
-  points-idle e = rw e
+  points_idle e = rw e
 
-  pub points-first : nothing ≡ false → left + distance < D → left + distance ≡ pointer_of D distance left nothing
+  pub points_first : nothing ≡ false → left + distance < D → left + distance ≡ pointer_of D distance left nothing
   unfolding pointer_of
-  points-first e h = rw (e, lt-ltb (left + distance) D h)
+  points_first e h = rw (e, lt-ltb (left + distance) D h)
 
   pub points_none : nothing ≡ false → D ≤ left + distance → none_starts ≡ pointer_of D distance left nothing
   unfolding pointer_of

@@ -14,7 +14,7 @@ use Rattle.table.specs.Table.{First, None}
 use Rattle.frame.specs.declared.closing.ControlWord.{ControlWord}
 use Rattle.frame.specs.declared.set_up.SetUp.{SetUp}
 use Rattle.frame.proofs.Laws.{row1_fits, row20_exactly, row25_exactly}
-use Rattle.table.proofs.Laws.{first_gives, none-gives}
+use Rattle.table.proofs.Laws.{first_gives, none_gives}
 use Rattle.writing.specs.declared.Answer.{Answer}
 use Rattle.writing.specs.declared.Answer.TheVariants.{Refused, Frame}
 use Rattle.writing.specs.declared.Place.{Place}
@@ -44,9 +44,9 @@ module _ (end offset left : ℕ) where
     none_left e = rw (le-ltb 6 left h, eq-eqb left 0 e)
 
     module _ (l : left ≡ 0 → ⊥) where
-      pub at-start : offset ≡ 0 → false ≡ row24 end offset left
+      pub at_start : offset ≡ 0 → false ≡ row24 end offset left
       unfolding row24
-      at-start e = rw (le-ltb 6 left h, ne_eqb left 0 l, eq-eqb offset 0 e)
+      at_start e = rw (le-ltb 6 left h, ne_eqb left 0 l, eq-eqb offset 0 e)
 
       pub by_end : (offset ≡ 0 → ⊥) → not (eqb offset end) ≡ row24 end offset left
       unfolding row24
@@ -58,18 +58,18 @@ module _ (end offset left : ℕ) where
     unfolding row24
     few_left = ltb-false 6 left (or_none (ltb 6 left) _ e).0
 
-    pub at-border : (left ≡ 0 → ⊥) → (offset ≡ 0) ⊎ (offset ≡ end)
+    pub at_border : (left ≡ 0 → ⊥) → (offset ≡ 0) ⊎ (offset ≡ end)
     unfolding row24
-    at-border l = either (eqb offset 0) refl (rw (ne_eqb left 0 l) at (or_none (ltb 6 left) _ e).1)
+    at_border l = either (eqb offset 0) refl (rw (ne_eqb left 0 l) at (or_none (ltb 6 left) _ e).1)
       where
         either : (b : Bool) → eqb offset 0 ≡ b → not (eqb offset 0) && not (eqb offset end) ≡ false → (offset ≡ 0) ⊎ (offset ≡ end)
         either true q r = inl (eqb-true offset 0 q)
         either false q r = inr (eqb-true offset end (not-false _ (rw q at r)))
 
-  pub border-passes : left ≤ 6 → (offset ≡ 0) ⊎ (offset ≡ end) → row24 end offset left ≡ false
+  pub border_passes : left ≤ 6 → (offset ≡ 0) ⊎ (offset ≡ end) → row24 end offset left ≡ false
   unfolding row24
-  border-passes h (inl e) = rw (le-ltb 6 left h, eq-eqb offset 0 e) (and_none (not (eqb left 0)))
-  border-passes h (inr e) = rw (le-ltb 6 left h, eq-eqb offset end e, and_none (not (eqb offset 0))) (and_none (not (eqb left 0)))
+  border_passes h (inl e) = rw (le-ltb 6 left h, eq-eqb offset 0 e) (and_none (not (eqb left 0)))
+  border_passes h (inr e) = rw (le-ltb 6 left h, eq-eqb offset end e, and_none (not (eqb offset 0))) (and_none (not (eqb left 0)))
 
 -- the first cause
 module _ (u : SetUp) (channel : ℕ) (p : Place) (run out : List ℕ) where
@@ -88,9 +88,9 @@ module _ (u : SetUp) (channel : ℕ) (p : Place) (run out : List ℕ) where
       too_long c = inr ((row1_fits u).1.1 a, inr ((row20_exactly channel).1.1 b, inl (refl, lt-ltb 65536 (length run) c)))
 
       module _ (c : length run ≤ 65536) where
-        pub no-chain : chain_of run ≡ false → First (write_table u channel p run out) NotAChain
+        pub no_chain : chain_of run ≡ false → First (write_table u channel p run out) NotAChain
         unfolding write_table row21 row22
-        no-chain d = inr ((row1_fits u).1.1 a, inr ((row20_exactly channel).1.1 b, inr (le-ltb 65536 (length run) c, inl (refl, rw d))))
+        no_chain d = inr ((row1_fits u).1.1 a, inr ((row20_exactly channel).1.1 b, inr (le-ltb 65536 (length run) c, inl (refl, rw d))))
 
         module _ (d : chain_of run ≡ true) where
           pub past : length run < p.offset → First (write_table u channel p run out) OffsetPast
@@ -98,9 +98,9 @@ module _ (u : SetUp) (channel : ℕ) (p : Place) (run out : List ℕ) where
           past e = inr ((row1_fits u).1.1 a, inr ((row20_exactly channel).1.1 b, inr (le-ltb 65536 (length run) c, inr (rw d, inl (refl, lt-ltb (length run) p.offset e)))))
 
           module _ (e : p.offset ≤ length run) where
-            pub bad-left : row24 (length run) p.offset p.left_over ≡ true → First (write_table u channel p run out) LeftOver
+            pub bad_left : row24 (length run) p.offset p.left_over ≡ true → First (write_table u channel p run out) LeftOver
             unfolding write_table row21 row22 row23
-            bad-left f =
+            bad_left f =
                 inr ((row1_fits u).1.1 a, inr ((row20_exactly channel).1.1 b, inr (le-ltb 65536 (length run) c, inr (rw d, inr (le-ltb (length run) p.offset e, inl (refl, f))))))
 
             module _ (f : row24 (length run) p.offset p.left_over ≡ false) where
@@ -154,7 +154,7 @@ module _ (u : SetUp) (channel : ℕ) (p : Place) (run out : List ℕ) where
     written answer next out' n b =
         let t = write_table u channel p run out in
         record {
-          answers = b.answers ∙ sym (none-gives Refused Frame t n);
-          goes_on = b.goes_on ∙ sym (none-gives (λ _. p) (next_place u p w run) t n);
-          output_left = b.output_left ∙ sym (none-gives (λ _. out) (frame_written u channel p w run) t n);
+          answers = b.answers ∙ sym (none_gives Refused Frame t n);
+          goes_on = b.goes_on ∙ sym (none_gives (λ _. p) (next_place u p w run) t n);
+          output_left = b.output_left ∙ sym (none_gives (λ _. out) (frame_written u channel p w run) t n);
         }

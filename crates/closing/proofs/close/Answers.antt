@@ -7,7 +7,7 @@ use lib.ListN.{length}
 use borrow.Author.Tests.{not-true, not-false}
 use Rattle.frame.specs.declared.closing.CloseRefusal.TheVariants.{SetUpRange, ChannelAbove, OutputLength}
 use Rattle.frame.specs.SetUp.{fits_of}
-use Rattle.frame.proofs.ClosingLaws.{frame-written, sizes}
+use Rattle.frame.proofs.ClosingLaws.{frame_written_lem, sizes}
 use Rattle.frame.proofs.ClosingSteps.{outside, above, other_length, passed, refused, written}
 use Rattle.frame.proofs.SetUpLaws.{in_range}
 use borrow.Author.Rules.{rules}
@@ -45,7 +45,7 @@ write_check-requires c = let t = (let tested : let a = c.args in (fits_of a.set 
 pub returns : goal.returns
 returns c = let t = (let tested : let a = c.args in (fits_of a.set ≡ true) × (a.channel < 8) × (length a.output.now ≡ a.set.length) = (sym c.fits.ensures ∙ c.if-not-fits.false, c.if-channel-ge-CHANNELS.false, c.if-output-set.false) in tested) in
     let a = c.args in
-    let f = frame-written a.set a.channel a.master a.count a.word a.pointer a.output.now _ _ _ _ t.0 t.2
+    let f = frame_written_lem a.set a.channel a.master a.count a.word a.pointer a.output.now _ _ _ _ t.0 t.2
     (omega (arith, sizes _ a.word t.0))
     (rw c.flagged.ensures at c.write_header.ensures) c.write_word.ensures c.write_check.ensures in
     let r = written _ _ _ _ _ _ _ (passed _ _ _ t.0 t.1 t.2) in

@@ -2,7 +2,7 @@
 use mathlib.Core.Path.{◌∙◌, sym, ap}
 use native.Mathlib.Omega.{arith}
 use Rattle.octets.specs.Laid.{laid}
-use Rattle.frame.proofs.ClosingLaws.{bit_lt, header-three, three_laid}
+use Rattle.frame.proofs.ClosingLaws.{bit_lt, header_three, three_laid}
 use Rattle.frame.proofs.SetUpLaws.{in_range}
 use borrow.Author.Rules.{rules}
 use Rattle.closing.proofs.write_header.Goals as goal
@@ -11,5 +11,5 @@ pub returns : goal.returns
 returns c = let s = c in
     let a = s.args in
     three_laid a.output.now _ _ _ _ _ _ s.requires.2 (rw c.bit_of.ensures at c.put16.ensures) c.put16-2.ensures c.put16-3.ensures
-    ∙ ap (laid a.output.now 0) (sym (header-three a.set a.channel a.master a.count a.flagged a.pointer
+    ∙ ap (laid a.output.now 0) (sym (header_three a.set a.channel a.master a.count a.flagged a.pointer
     (omega (arith, (in_range _).0 s.requires.0)) s.requires.1 (omega arith) (omega arith)))

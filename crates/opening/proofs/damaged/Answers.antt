@@ -1,10 +1,10 @@
 -- row 6.
-use Rattle.frame.proofs.RowLaws.{row6-tested, row6-passed}
+use Rattle.frame.proofs.RowLaws.{row6_tested, row6_passed}
 use borrow.Author.Rules.{rules}
 use Rattle.opening.proofs.damaged.Goals as goal
 
 pub returns-then-set : goal.returns-then-set
-returns-then-set c = row6-tested _ _ _ c.if-set.true c.syndrome.ensures
+returns-then-set c = row6_tested _ _ _ c.if-set.true c.syndrome.ensures
 
 pub returns-else-set : goal.returns-else-set
-returns-else-set c = row6-passed _ _ c.if-set.false
+returns-else-set c = row6_passed _ _ c.if-set.false

@@ -1,7 +1,7 @@
 -- rows 1, 5 and 6, and the rest by `open_header`.
 use borrow.Author.Tests.{not-true, not-false}
 use mathlib.Core.Path.{◌∙◌, sym}
-use Rattle.frame.proofs.OpeningSteps.{outside, wrong-length, failed-check, checked}
+use Rattle.frame.proofs.OpeningSteps.{outside, wrong_length, failed_check, checked}
 use borrow.Author.Rules.{rules}
 use Rattle.opening.proofs.open.Goals as goal
 
@@ -9,10 +9,10 @@ pub returns-then-not-fits : goal.returns-then-not-fits
 returns-then-not-fits c = outside _ _ (sym c.fits.ensures ∙ c.if-not-fits.true)
 
 pub returns-then-frame-set : goal.returns-then-frame-set
-returns-then-frame-set c = wrong-length _ _ (sym c.fits.ensures ∙ c.if-not-fits.false) c.if-frame-set.true
+returns-then-frame-set c = wrong_length _ _ (sym c.fits.ensures ∙ c.if-not-fits.false) c.if-frame-set.true
 
 pub returns-then-damaged : goal.returns-then-damaged
-returns-then-damaged c = failed-check _ _ (sym c.fits.ensures ∙ c.if-not-fits.false) c.if-frame-set.false (sym c.damaged.ensures ∙ c.if-damaged.true)
+returns-then-damaged c = failed_check _ _ (sym c.fits.ensures ∙ c.if-not-fits.false) c.if-frame-set.false (sym c.damaged.ensures ∙ c.if-damaged.true)
 
 pub open_header-requires : goal.open_header-requires
 open_header-requires c = ((sym c.fits.ensures ∙ c.if-not-fits.false), c.if-frame-set.false)

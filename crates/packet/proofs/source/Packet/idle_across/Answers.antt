@@ -5,7 +5,7 @@ use native.Mathlib.Omega.{arith}
 use mathlib.Core.List.{◌++◌}
 use Rattle.octets.proofs.Laws.{number_two}
 use Rattle.packet.specs.Header.{application_of, idle_of}
-use Rattle.packet.proofs.HeaderLaws.{application-is}
+use Rattle.packet.proofs.HeaderLaws.{application_is}
 use borrow.Author.Rules.{rules}
 use Rattle.packet.proofs.source.Packet.idle_across.Goals as goal
 
@@ -14,5 +14,5 @@ unfolding idle_of
 returns c = let a = c.args in
     let p = a.held.now ++ a.more.now in
     let e : (c.octet_across-first.result * 256 + c.octet_across-second.result) % 2048 ≡ application_of p =
-    omega (arith, number_two p 0, application-is p) in
+    omega (arith, number_two p 0, application_is p) in
     c.idle_by.ensures ∙ rw e
