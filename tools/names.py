@@ -30,7 +30,7 @@ CHOSEN = {
     "under-way": "under_way_lem", "values-of": "values_of_lem", "whole_in": "whole_in_lem", "word-octets": "word_octets_lem",
     "word_number": "word_number_lem", "ended_by": "ended_by_lem", "arrived-whole": "arrived_whole_lem",
     "channel-follows": "channel_follows_lem", "frame-written": "frame_written_lem", "packets-in": "packets_in_lem",
-    "part-after": "part_after_lem", "skips-out": "skips_out_lem",
+    "part-after": "part_after_lem", "state-follows": "state_follows_lem", "skips-out": "skips_out_lem",
     # decisions
     "hunts?": "hunts_or_not", "under-way?": "under_way_or_not", "agrees?": "agrees_or_not",
     # fields beside a definition that they cite

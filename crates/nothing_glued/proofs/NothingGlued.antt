@@ -34,7 +34,7 @@ use Rattle.channel.proofs.RuleLaws.{gathers_told}
 use Rattle.walk.specs.Steps.{hunted, broke, disagreed, called_at, agrees_by, agrees, gathered, skipped, resumed, gap_for, carries_none, steps_of, course_of}
 use Rattle.walk.specs.Walk.{Done, only, ended, walk_of, no_tally}
 use Rattle.walk.proofs.EndLaws.{held_total}
-use Rattle.walk.proofs.KeepLaws.{state_follows}
+use Rattle.walk.proofs.KeepLaws.{state_follows_lem}
 use Rattle.walk.proofs.WalkLaws.{Stands}
 use Rattle.reading.specs.Reading.{kind_of, field_of, channel_of, done_by, report_of, record_after, store_after, output_after}
 use Rattle.reading.specs.declared.Kind.TheVariants.{Packets, Idle, Private}
@@ -288,7 +288,7 @@ module _ (F : Family) (laws : Lawful F) (limit : ℕ) (c : Channel) (part field 
             none_broken = x ∙ n.unbroken;
             none_disagrees = y ∙ n.agreeing;
           })
-          (rw e at (state_follows F limit part c follows)) (F.size (take k part ++ field)) refl g
+          (rw e at (state_follows_lem F limit part c follows)) (F.size (take k part ++ field)) refl g
 
       resumed_good : (s : State) → c.state ≡ s → a.broken ≡ (resumed F limit part field a.header.pointer s).broken
           → a.disagreement ≡ (resumed F limit part field a.header.pointer s).disagreement

@@ -28,7 +28,7 @@ use Rattle.walk.specs.Walk.{Done, no_tally, handed_all, tallied_all}
 use Rattle.reading.specs.Theorems.{skip_ended}
 use Rattle.reading.proofs.AcceptLaws.{own_follows, field_length, part_whole}
 use Rattle.walk.proofs.FewLaws.{counted, steps_few}
-use Rattle.walk.proofs.KeepLaws.{LeavesBy, state_follows, steps_leave}
+use Rattle.walk.proofs.KeepLaws.{LeavesBy, state_follows_lem, steps_leave}
 use Rattle.octets.proofs.OctetLaws.{octets_take, octets_drop, octets_laid}
 use Rattle.walk.proofs.OctetLaws.{octets_part, octets_with}
 
@@ -44,7 +44,7 @@ module _ (F : Family) (laws : Lawful F) (limit : ℕ) (rec : Record) (x : Frame)
       let many : (tallied_all F no_tally d.whole).delivered + (tallied_all F no_tally d.whole).idle ≡ length d.whole =
       counted F no_tally d.whole ∙ zero-add (length d.whole) in
       let few = steps_few F laws limit (part_of limit x.header.channel store) (field_of x f) (part_whole rec x f store out r) x.header
-      (channel_of x rec) (state_follows F limit _ (channel_of x rec) own_channel) in
+      (channel_of x rec) (state_follows_lem F limit _ (channel_of x rec) own_channel) in
       rw many (rw (field_length rec x f store out r) at few)
 
 module _ (F : Family) (laws : Lawful F) (limit : ℕ) (wide : F.header + most_field ≤ limit) (rec : Record) (x : Frame) (f store out : List ℕ)

@@ -28,9 +28,9 @@ use Rattle.octets.proofs.OctetLaws.{octets_drop}
 use Rattle.walk.proofs.WalkLaws.{walk_fits}
 
 -- a channel that keeps the rules has a state that does
-pub state_follows : (F : Family) (limit : ℕ) (part : List ℕ) (c : Channel) → channel_follows F limit part c ≡ true → state_follows F limit part c.state ≡ true
+pub state_follows_lem : (F : Family) (limit : ℕ) (part : List ℕ) (c : Channel) → channel_follows F limit part c ≡ true → state_follows F limit part c.state ≡ true
 unfolding channel_follows hunts state_follows
-state_follows F limit part c = go c.heard c.state
+state_follows_lem F limit part c = go c.heard c.state
   where
     go : (b : Bool) (s : State) → pick b (state_follows F limit part s) (hunts s) ≡ true → state_follows F limit part s ≡ true
     go true s e = e
@@ -130,4 +130,4 @@ module _ (F : Family) (laws : Lawful F) (limit : ℕ) (O : Type 0) (room : ℕ) 
     steps_leave h c e =
         either (LeavesBy F limit O room) (carries_none h) (nothing Hunting (λ part o. refl))
         (either (LeavesBy F limit O room) (not (eqb (gap_for c h) 0)) (hunt field h.pointer (omega arith) (omega arith) of)
-        (resume h.pointer c.state (state_follows F limit part c e)))
+        (resume h.pointer c.state (state_follows_lem F limit part c e)))

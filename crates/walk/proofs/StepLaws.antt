@@ -139,10 +139,10 @@ hunts_follows F limit part Hunting e = refl
 hunts_follows F limit part (Gathering k) e = absurd (false≢true e)
 hunts_follows F limit part (Skipping r) e = absurd (false≢true e)
 
-pub state_follows : (F : Family) (limit : ℕ) (part : List ℕ) (c : Channel) → channel_follows F limit part c ≡ true
+pub state_follows_lem : (F : Family) (limit : ℕ) (part : List ℕ) (c : Channel) → channel_follows F limit part c ≡ true
     → state_follows F limit part c.state ≡ true
 unfolding channel_follows
-state_follows F limit part c e = go c.heard e
+state_follows_lem F limit part c e = go c.heard e
   where
     go : (b : Bool) → pick b (state_follows F limit part c.state) (hunts c.state) ≡ true → state_follows F limit part c.state ≡ true
     go true e = e
