@@ -80,7 +80,8 @@ def functions(text):
 
 
 def operations(crate, wrong):
-    """Each public operation's name in the crate's facade, with the places of its `&mut` parameters and whether it has a `requires`."""
+    """Each public operation's name in the crate's facade, with the places of its `&mut` parameters, whether it has a `requires`, and how many
+    `ensures` it has."""
     files = sources(crate)
     root = files[ROOT / "crates" / crate / "src/lib.rt"]
     passed_on = {name for one, some in PASSED_ON.findall(root) for name in re.findall(r"\w+", one + some)}
@@ -100,7 +101,8 @@ def operations(crate, wrong):
                 continue
             each = [p.strip() for p in re.split(r",(?![^<\[]*[>\]])", params) if p.strip()]
             lent = [i for i, p in enumerate(each) if re.search(r":\s*&mut\b", p)]
-            found[name] = (lent, any(kind == "requires" for kind, _ in clauses))
+            kinds = [kind for kind, _ in clauses]
+            found[name] = (lent, "requires" in kinds, kinds.count("ensures"))
         if len(functions(text)) != len(re.findall(r"^ *pub fn ", text, re.M)):
             wrong.append(f"{crate}: {path.name}: a public function whose head this test cannot read")
     return found
@@ -141,32 +143,46 @@ def exported(wrong):
     return count
 
 
-def expected(alias, lent, part):
-    asked, learnt = (("readAsked", "readLearnt") if alias == "read" else (f"{alias}.Reads.Asked", f"{alias}.Reads.Learnt"))
+CLAUSES = {1: "one_clause _", 2: "two_clauses _ _", 3: "three_clauses _ _ _"}
+
+
+def expected(alias, lent, part, ensures):
     form = ("One" if part else "Answers") + ("Left" if lent else "")
-    places = ", ".join("now (e " + ".1 " * i + ".0)" for i in lent)
+    asks = "" if part else " (λ κs a. no_clause)"
+    places = ", ".join("e" + ".1" * i + ".0.now" for i in lent)
     left = f" (λ κs e. {places})" if len(lent) == 1 else f" (λ κs e. ({places}))" if lent else ""
-    return f"{form} {alias}.ended {learnt if part else asked + ' ' + learnt}{left}"
+    says = CLAUSES.get(ensures, f"{ensures} clauses")
+    return f"{form} {alias}.ended (λ w. {alias}.clauses w.𝓛 w.𝓜.mem w.𝓡.returns) (λ κs a w. tt){asks} (λ κs a x e. {says}){left}"
+
+
+def proved(wrong):
+    """The theorem is proved as the contract of a function, so that the crate cannot pass without it."""
+    source = (ROOT / "crates/one_answer/src/lib.rt").read_text()
+    if not re.search(r"^pub fn one_answer\(\)\n    ensures \{ OneAnswer \}\n\{", source, re.M):
+        wrong.append("one_answer: src/lib.rt has no function with the contract OneAnswer")
+    if "ghost use Rattle.one_answer.specs.OneAnswer.{OneAnswer};" not in source.splitlines():
+        wrong.append("one_answer: src/lib.rt takes OneAnswer from elsewhere")
 
 
 def main():
     text = (ROOT / "crates/one_answer/specs/OneAnswer.antt").read_text()
-    cited = {(m[0], m[1]): m[2] for m in re.findall(r"^use Rattle·(\w+)\.proofs\.([\w.]+) as ([\w-]+)$", text, re.M)}
+    cited = {(m[0], m[1]): m[2] for m in re.findall(r"^use Rattle\.(\w+)\.specs\.contracts\.([\w.]+) as (\w+)$", text, re.M)}
     body = text[text.index("pub record OneAnswer") :]
     fields = {}
-    for name, said in re.findall(r"^  pub ([\w-]+) : (.*?)(?=^  (?:pub|--)|\Z)", body, re.M | re.S):
+    for name, said in re.findall(r"^  pub (\w+) : (.*?)(?=^  (?:pub|--)|\Z)", body, re.M | re.S):
         fields[name] = re.sub(r"\{A = [^}]*\} ", "", " ".join(said.split()))
     wrong = []
     count = 0
+    proved(wrong)
     for crate in libraries():
-        for name, (lent, asks) in operations(crate, wrong).items():
+        for name, (lent, asks, ensures) in operations(crate, wrong).items():
             count += 1
             part = name in PARTS.get(crate, set())
             if asks != part:
                 wrong.append(f"{crate}: {name} " + ("has a `requires`, and is no part of decision 15" if asks else "is a part, and asks nothing"))
             alias = cited.pop((crate, name), "ALIAS")
-            if fields.pop(alias, None) != expected(alias, lent, part):
-                wrong.append(f"{crate}: {name} lacks the field `{expected(alias, lent, part)}`")
+            if fields.pop(alias, None) != expected(alias, lent, part, ensures):
+                wrong.append(f"{crate}: {name} lacks the field `{expected(alias, lent, part, ensures)}`")
     wrong += [f"{crate}: {name} is cited, and is no public operation" for crate, name in cited]
     wrong += [f"the field {name} is of no public operation" for name in fields]
     for_c = exported(wrong)

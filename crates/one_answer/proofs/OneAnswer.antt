@@ -1,6 +1,6 @@
 -- Every contract is an equation with a definition, so that two results it allows are equal.
 -- Assumes nothing.
-use mathlib.Core.Path.{◌≡◌, refl, ◌∙◌, sym}
+use Rattle.std.proofs.Common.{◌≡◌, refl, ◌∙◌, sym}
 use Rattle.one_answer.specs.OneAnswer.{OneAnswer}
 
 -- one thing that both are
@@ -30,7 +30,7 @@ one_answer =
       data_size_for = (λ κs a. tt, λ κs a x y e d p q. both p q);
       close_frame = (λ κs a. tt, λ κs a x y e d p q. (both p.0 q.0, both p.1 q.1));
       data_size = λ κs a x y e d p q. both p q;
-      packet_is_fit = (λ κs a. tt, λ κs a x y e d p q. both p q);
+      packet_fits = (λ κs a. tt, λ κs a x y e d p q. both p q);
       packet_fits_within = (λ κs a. tt, λ κs a x y e d p q. both p q);
       packet_size = (λ κs a. tt, λ κs a x y e d p q. both p q);
       packet_size_across = (λ κs a. tt, λ κs a x y e d p q. both p q);
@@ -46,8 +46,8 @@ one_answer =
       busy_count = (λ κs a. tt, λ κs a x y e d p q. both p q);
       lowest_busy = (λ κs a. tt, λ κs a x y e d p q. both p q);
       busy_state = (λ κs a. tt, λ κs a x y e d p q. both p q);
-      store_is_fit = (λ κs a. tt, λ κs a x y e d p q. both p q);
-      output_is_fit = (λ κs a. tt, λ κs a x y e d p q. both p q);
+      store_fits = (λ κs a. tt, λ κs a x y e d p q. both p q);
+      output_fits = (λ κs a. tt, λ κs a x y e d p q. both p q);
       follows = (λ κs a. tt, λ κs a x y e d p q. both p q);
       store_place = λ κs a x y e d p q. both p q;
       none_yet = (λ κs a. tt, λ κs a x y e d p q. both p q);
