@@ -1,47 +1,85 @@
-// A channel's file at the end: closed and read back.
+// A channel's file at the end: all of it handed to the system, and read back.
+ghost use Rattle.std.specs.Prelude.{◌≤◌, length};
+
+use crate::opening::open;
 use crate::within;
 use desk::Saved;
 use lines::{blame, hex, text, value};
+use std::fs::OpenFile;
+use std::io::Read;
+use std::rt::Files;
 
 // Files of fewer octets than this are looked at whole.
 const ROOM: usize = 65536;
 
+// Reads until the room is full, the input ends or a read fails: how many octets came.
+pub fn read_full(input: &mut impl Read, room: &mut [u8]) -> usize
+    ensures { result ≤ length room.new }
+{
+    let mut n = 0;
+    while n < room.len() {
+        match input.read(&mut room[n..]) {
+            Ok(0) | Err(_) => return n,
+            Ok(more) => n += more,
+        }
+    }
+    n
+}
+
 // The octets read back, against what was written.
-fn compared(octets: &[u8], s: Saved) -> bool {
+fn compared(rt: &impl Print, octets: &[u8], s: Saved) -> bool {
     if ROOM <= octets.len() {
-        text(b" check=none");
+        text(rt, b" check=none");
         return !s.failed;
     }
-    hex(b" check=", crc::syndrome(octets) as u64, 4);
+    hex(rt, b" check=", crc::syndrome(octets) as u64, 4);
     if s.failed {
         return false;
     }
     octets.len() as u64 == s.octets
 }
 
-fn read_back(path: &[u8], s: Saved) -> bool {
-    let fd = os::open_read(path);
-    if fd < 0 {
-        blame(b"cannot read back ", path);
-        return false;
+fn read_back(rt: &(impl Files + Print), err: &impl Print, path: &[u8], s: Saved) -> bool {
+    match open(rt, path) {
+        Ok(mut file) => {
+            let mut room = [0u8; ROOM];
+            let n = read_full(&mut file, &mut room);
+            compared(rt, &room[..n], s)
+        }
+        Err(why) => {
+            blame(err, b"cannot read back ", path, why);
+            false
+        }
     }
-    let mut room = io::large_buffer();
-    let n = io::read_full(fd, &mut room);
-    libc::close(fd);
-    compared(&room[..n], s)
 }
 
-// Closes the channel's file and reads it back: whether all of the channel's packets are in it.
-fn settled(fd: i32, path: &[u8], s: Saved) -> bool {
-    value(b" octets=", s.octets);
-    if libc::close(fd) < 0 {
-        blame(b"cannot close ", path);
-        return false;
+// Reads the channel's file back: whether all of the channel's packets are in it. std tells of no error of a close, so what such an
+// error would tell is asked for before: whether what was written can be stored.
+fn settled<R: Files + Print>(
+    rt: &R,
+    err: &impl Print,
+    file: &R::File,
+    path: &[u8],
+    s: Saved,
+) -> bool {
+    value(rt, b" octets=", s.octets);
+    match file.sync_data() {
+        Ok(()) => read_back(rt, err, path, s),
+        Err(why) => {
+            blame(err, b"cannot close ", path, why);
+            false
+        }
     }
-    read_back(path, s)
 }
 
-pub fn finished(fd: i32, out: &[u8], m: usize, s: Saved) -> bool {
+pub fn finished<R: Files + Print>(
+    rt: &R,
+    err: &impl Print,
+    file: &R::File,
+    out: &[u8],
+    m: usize,
+    s: Saved,
+) -> bool {
     let k = within(m, out.len());
-    settled(fd, &out[0..k], s)
+    settled(rt, err, file, &out[0..k], s)
 }

@@ -1,7 +1,8 @@
 use lines::text;
 
-pub fn help() {
+pub fn help(rt: &impl Print) {
     text(
+        rt,
         b"scowdeck FILE LENGTH SPACECRAFT CHECK OUT
 
 Reads the telemetry frames that lie end to end in FILE and writes the packets of

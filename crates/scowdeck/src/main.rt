@@ -9,22 +9,30 @@ mod summary;
 mod words;
 
 use lines::complain;
-use words::same;
+use words::{is_given, same, word_at};
 
-fn asked_for_help() -> bool {
+// Five words behind the program's name.
+fn five_words(rt: &HostRuntime) -> bool {
+    is_given(rt, 5) && !is_given(rt, 6)
+}
+
+fn asked_for_help(rt: &HostRuntime) -> bool {
     let mut word = [0u8; 8];
-    let n = os::arg(1, &mut word);
+    let n = word_at(rt, 1, &mut word);
     same(&word[..n], b"--help")
 }
 
-fn main() {
-    if os::arg_count() == 6 {
-        starting::start();
+fn main(rt: HostRuntime) {
+    if five_words(&rt) {
+        starting::start(&rt);
         return;
     }
-    if asked_for_help() {
-        help::help();
+    if asked_for_help(&rt) {
+        help::help(&rt);
         return;
     }
-    complain(b"five words are wanted: FILE LENGTH SPACECRAFT CHECK OUT; scowdeck --help says more");
+    complain(
+        &rt.stderr(),
+        b"five words are wanted: FILE LENGTH SPACECRAFT CHECK OUT; scowdeck --help says more",
+    );
 }

@@ -4,25 +4,31 @@ ghost use Rattle.keeping.specs.Keeping.{Keeps};
 
 use channel::{Output, Store};
 use desk::{Desk, Saved};
-use files::{save, within};
+use files::{read_full, save, within};
 use frame::SetUp;
 use keeping::{Work, step};
 use lines::{accepted, blame, complain, refused};
 use reading::{Answer, Report};
+use std::fs::File;
+use std::io::Read;
 
 // Whether the recording ended where the frames did; if not, why is said.
-fn ended(fd: i32, path: &[u8]) -> bool {
+fn ended(rt: &HostRuntime, file: &mut File, path: &[u8]) -> bool {
     let mut more = [0u8; 1];
-    let got = libc::read(fd, &mut more);
-    if got < 0 {
-        blame(b"reading stopped: ", path);
-        return false;
+    match file.read(&mut more) {
+        Ok(0) => true,
+        Ok(_) => {
+            complain(
+                &rt.stderr(),
+                b"reading stopped: the recording is still growing",
+            );
+            false
+        }
+        Err(why) => {
+            blame(&rt.stderr(), b"reading stopped: ", path, why);
+            false
+        }
     }
-    if got == 0 {
-        return true;
-    }
-    complain(b"reading stopped: the recording is still growing");
-    false
 }
 
 fn start() -> Work {
@@ -38,42 +44,56 @@ fn start() -> Work {
 }
 
 // An accepted frame: its packets are written before its line, so that no line tells of packets that are not in the file.
-fn accept(work: Work, number: u64, r: Report, packets: &[u8], fds: &[i32; 8]) -> Work
+fn accept(
+    rt: &HostRuntime,
+    work: Work,
+    number: u64,
+    r: Report,
+    packets: &[u8],
+    files: &mut [File; 8],
+) -> Work
     ensures { result.desk ≡ work.desk }
 {
     let h = r.header;
     let v = h.channel % 8;
     let before = work.saved[v];
-    let fd = fds[v];
     let mut next = work;
-    next.saved[v] = save(fd, v, before, packets);
-    accepted(number, r);
+    next.saved[v] = save(&rt.stderr(), &mut files[v], v, before, packets);
+    accepted(rt, number, r);
     next
 }
 
 // What the desk answered of a frame of so many octets is said, and its packets are saved.
-fn tell(work: Work, answer: Answer, octets: usize, packets: &[u8], fds: &[i32; 8]) -> Work
+fn tell(
+    rt: &HostRuntime,
+    work: Work,
+    answer: Answer,
+    octets: usize,
+    packets: &[u8],
+    files: &mut [File; 8],
+) -> Work
     ensures { result.desk ≡ work.desk }
 {
     let desk = work.desk;
     let totals = desk.totals;
     match answer {
         Answer::Refused(refusal) => {
-            refused(totals.frames, octets, refusal);
+            refused(rt, totals.frames, octets, refusal);
             work
         }
-        Answer::Accepted(r) => accept(work, totals.frames, r, packets, fds),
+        Answer::Accepted(r) => accept(rt, work, totals.frames, r, packets, files),
     }
 }
 
 // One frame.
 fn one(
+    rt: &HostRuntime,
     work: Work,
     set: SetUp,
     frame: &[u8],
     store: &mut [u8; Store::LEN],
     output: &mut [u8; Output::MIN],
-    fds: &[i32; 8],
+    files: &mut [File; 8],
 ) -> Work
     ensures { Keeps set work.desk store.old output.old frame.now result.desk store.new }
 {
@@ -82,59 +102,64 @@ fn one(
     let answer = stepped.answer;
     let n = stepped.octets;
     let all: &[u8] = output;
-    tell(next, answer, frame.len(), &all[0..n], fds)
+    tell(rt, next, answer, frame.len(), &all[0..n], files)
 }
 
-fn fill(fd: i32, frame: &mut [u8], n: usize) -> usize {
+fn fill(file: &mut File, frame: &mut [u8], n: usize) -> usize {
     let k = within(n, frame.len());
-    io::read_full(fd, &mut frame[0..k])
+    read_full(file, &mut frame[0..k])
 }
 
 // Reads n octets, or as many as are left.
-fn fetch(fd: i32, frame: &mut [u8; SetUp::MAX], n: usize) -> usize {
-    fill(fd, frame, n)
+fn fetch(file: &mut File, frame: &mut [u8; SetUp::MAX], n: usize) -> usize {
+    fill(file, frame, n)
 }
 
 // The same of the first `got` octets.
 fn pass(
+    rt: &HostRuntime,
     work: Work,
     set: SetUp,
     frame: &[u8; SetUp::MAX],
     got: usize,
     store: &mut [u8; Store::LEN],
     output: &mut [u8; Output::MIN],
-    fds: &[i32; 8],
+    files: &mut [File; 8],
 ) -> Work {
     let all: &[u8] = frame;
     let k = within(got, all.len());
-    one(work, set, &all[0..k], store, output, fds)
+    one(rt, work, set, &all[0..k], store, output, files)
 }
 
-// All frames of the recording; the last may be short, and is refused then. A proved loop has to end, so the turns are counted
-// down from a number that no recording uses up.
-fn frames(fd: i32, set: SetUp, fds: &[i32; 8]) -> Work {
+// All frames of the recording; the last may be short, and is refused then. A proved loop has to end, so the turns are counted,
+// up to a number that no recording reaches.
+fn frames(rt: &HostRuntime, file: &mut File, set: SetUp, files: &mut [File; 8]) -> Work {
     let mut store = [0u8; Store::LEN];
     let mut output = [0u8; Output::MIN];
     let mut frame = [0u8; SetUp::MAX];
     let n = set.length;
     let mut work = start();
-    let mut turns = u64::MAX;
-    while 0 < turns {
-        let got = fetch(fd, &mut frame, n);
+    for _ in 0..u64::MAX {
+        let got = fetch(file, &mut frame, n);
         if got == 0 {
             return work;
         }
-        work = pass(work, set, &frame, got, &mut store, &mut output, fds);
+        work = pass(rt, work, set, &frame, got, &mut store, &mut output, files);
         if got < n {
             return work;
         }
-        turns -= 1;
     }
     work
 }
 
-pub fn read_all(fd: i32, set: SetUp, path: &[u8], fds: &[i32; 8]) -> Work {
-    let mut work = frames(fd, set, fds);
-    work.complete = ended(fd, path);
+pub fn read_all(
+    rt: &HostRuntime,
+    file: &mut File,
+    set: SetUp,
+    path: &[u8],
+    files: &mut [File; 8],
+) -> Work {
+    let mut work = frames(rt, file, set, files);
+    work.complete = ended(rt, file, path);
     work
 }

@@ -1,11 +1,15 @@
 // From the words of the command line to an open recording and eight files.
 use crate::recording::read_all;
 use crate::summary::summary;
-use crate::words::{Choice, chosen};
+use crate::words::{Choice, chosen, word_at};
 use desk::{Number, spelt};
-use files::{OUT_MAX, make_all};
+use files::{OUT_MAX, PATH_MAX, make_all, open};
 use frame::SetUp;
 use lines::{blame, complain};
+use std::env::FillError;
+use std::fs::File;
+use std::io;
+use std::rt::Env;
 
 #[derive(Clone, Copy)]
 enum Given {
@@ -14,15 +18,15 @@ enum Given {
 }
 
 // A word of the command line as a number.
-fn number_at(i: usize) -> Number {
+fn number_at(rt: &HostRuntime, i: usize) -> Number {
     let mut word = [0u8; 16];
-    let n = os::arg(i, &mut word);
+    let n = word_at(rt, i, &mut word);
     spelt(&word[..n])
 }
 
-fn choice_at(i: usize) -> Choice {
+fn choice_at(rt: &HostRuntime, i: usize) -> Choice {
     let mut word = [0u8; 16];
-    let n = os::arg(i, &mut word);
+    let n = word_at(rt, i, &mut word);
     chosen(&word[..n])
 }
 
@@ -31,10 +35,10 @@ fn spacecraft(n: usize) -> u32 {
     if n <= 4294967295 { n as u32 } else { u32::MAX }
 }
 
-fn with_check(length: usize, craft: usize) -> Given {
-    match choice_at(4) {
+fn with_check(rt: &HostRuntime, length: usize, craft: usize) -> Given {
+    match choice_at(rt, 4) {
         Choice::Bad => {
-            complain(b"CHECK is yes or no");
+            complain(&rt.stderr(), b"CHECK is yes or no");
             Given::Bad
         }
         Choice::Yes => Given::Whole(SetUp {
@@ -50,68 +54,93 @@ fn with_check(length: usize, craft: usize) -> Given {
     }
 }
 
-fn with_spacecraft(length: usize) -> Given {
-    match number_at(3) {
+fn with_spacecraft(rt: &HostRuntime, length: usize) -> Given {
+    match number_at(rt, 3) {
         Number::Bad => {
-            complain(b"SPACECRAFT is a number, 0 to 1023");
+            complain(&rt.stderr(), b"SPACECRAFT is a number, 0 to 1023");
             Given::Bad
         }
-        Number::Value(n) => with_check(length, n),
+        Number::Value(n) => with_check(rt, length, n),
     }
 }
 
-fn set_up_given() -> Given {
-    match number_at(2) {
+fn set_up_given(rt: &HostRuntime) -> Given {
+    match number_at(rt, 2) {
         Number::Bad => {
-            complain(b"LENGTH is a number, 13 to 2048");
+            complain(&rt.stderr(), b"LENGTH is a number, 13 to 2048");
             Given::Bad
         }
-        Number::Value(n) => with_spacecraft(n),
+        Number::Value(n) => with_spacecraft(rt, n),
     }
 }
 
-pub fn start() {
-    match set_up_given() {
+pub fn start(rt: &HostRuntime) {
+    match set_up_given(rt) {
         Given::Bad => {}
         Given::Whole(set) => {
             if set.fits() {
-                with_set_up(set);
+                with_set_up(rt, set);
             } else {
-                complain(b"refused=1: LENGTH is not 13 to 2048, or SPACECRAFT is above 1023");
+                complain(
+                    &rt.stderr(),
+                    b"refused=1: LENGTH is not 13 to 2048, or SPACECRAFT is above 1023",
+                );
             }
         }
     }
 }
 
-fn with_set_up(set: SetUp) {
-    let mut path = io::buffer();
-    let n = os::arg(1, &mut path);
-    if os::errno() != 0 {
-        return blame(b"", b"FILE");
+// What the system calls a word that is too long for a path, and one that is missing.
+const ENAMETOOLONG: i32 = 36;
+
+const EINVAL: i32 = 22;
+
+fn word_error(why: FillError) -> io::Error {
+    match why {
+        FillError::TooLong => io::Error::from_raw_os_error(ENAMETOOLONG),
+        FillError::NotPresent => io::Error::from_raw_os_error(EINVAL),
     }
-    let fd = os::open_read(&path[..n]);
-    if fd < 0 {
-        return blame(b"cannot open ", &path[..n]);
-    }
-    with_recording(fd, set, &path[..n]);
-    libc::close(fd);
 }
 
-fn with_recording(fd: i32, set: SetUp, path: &[u8]) {
-    let mut out = io::buffer();
-    let n = os::arg(5, &mut out);
-    if os::errno() != 0 {
-        return blame(b"", b"OUT");
+fn with_set_up(rt: &HostRuntime, set: SetUp) {
+    let mut path = [0u8; PATH_MAX];
+    match rt.arg(1, &mut path) {
+        Ok(n) => with_path(rt, set, &path[..n]),
+        Err(why) => blame(&rt.stderr(), b"", b"FILE", word_error(why)),
     }
+}
+
+fn with_path(rt: &HostRuntime, set: SetUp, path: &[u8]) {
+    match open(rt, path) {
+        Ok(mut file) => with_recording(rt, &mut file, set, path),
+        Err(why) => blame(&rt.stderr(), b"cannot open ", path, why),
+    }
+}
+
+fn with_recording(rt: &HostRuntime, file: &mut File, set: SetUp, path: &[u8]) {
+    let mut out = [0u8; PATH_MAX];
+    match rt.arg(5, &mut out) {
+        Ok(n) => with_out(rt, file, set, path, &mut out, n),
+        Err(why) => blame(&rt.stderr(), b"", b"OUT", word_error(why)),
+    }
+}
+
+fn with_out(
+    rt: &HostRuntime,
+    file: &mut File,
+    set: SetUp,
+    path: &[u8],
+    out: &mut [u8; PATH_MAX],
+    n: usize,
+) {
     if n == 0 {
-        return complain(b"OUT is empty");
+        return complain(&rt.stderr(), b"OUT is empty");
     }
     if OUT_MAX < n {
-        return complain(b"OUT is too long");
+        return complain(&rt.stderr(), b"OUT is too long");
     }
-    let mut fds = [0i32; 8];
-    if make_all(&mut out, n, &mut fds) {
-        let work = read_all(fd, set, path, &fds);
-        summary(work, &mut out, n, &fds);
+    if let Some(mut files) = make_all(rt, &rt.stderr(), out, n) {
+        let work = read_all(rt, file, set, path, &mut files);
+        summary(rt, work, out, n, &files);
     }
 }

@@ -1,7 +1,7 @@
 // Octets of a line: words of hex digits in pairs, and words *N, which have the octet before them stand N times in all.
 ghost use Rattle.std.specs.Prelude.{◌≤◌};
 
-use crate::words::number;
+use crate::words::{find, number};
 
 // How many octets of a line there is room for.
 pub const ROOM: usize = 70000;
@@ -78,7 +78,7 @@ pub fn words(rest: &[u8], into: &mut [u8; ROOM]) -> usize
     let mut n = 0;
     let mut at = 0;
     while at < rest.len() {
-        let next = bytes::scan::find(rest, at + 1, rest.len(), b' ');
+        let next = find(rest, at + 1, b' ');
         n = word(&rest[at..next], into, n);
         at = next;
     }

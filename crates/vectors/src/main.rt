@@ -21,19 +21,19 @@ mod words;
 ghost use Rattle.std.specs.Prelude.{◌≤◌, length};
 
 use hex::ROOM;
-use libc::STDIN_FILENO;
 use printing::{end_line, text};
-use words::{end, number};
+use std::io::Read;
+use words::{end, find, number};
 
 // `a` and `b` are the second and the third word as numbers, whether they are meant as such or not.
-fn perform(letter: u8, a: usize, b: usize, given: &[u8]) {
+fn perform(rt: &impl Print, letter: u8, a: usize, b: usize, given: &[u8]) {
     match letter {
-        b'c' => packets::chain(given),
-        b'd' => packets::distance(a, given),
-        b'g' => packets::gap(a, b),
-        b'h' => packets::header(given),
-        b's' => packets::size(given),
-        _ => walks::walk(a, b, given),
+        b'c' => packets::chain(rt, given),
+        b'd' => packets::distance(rt, a, given),
+        b'g' => packets::gap(rt, a, b),
+        b'h' => packets::header(rt, given),
+        b's' => packets::size(rt, given),
+        _ => walks::walk(rt, a, b, given),
     }
 }
 
@@ -50,7 +50,7 @@ fn octets_from(letter: u8, name: usize, one: usize, two: usize) -> usize
     }
 }
 
-fn case(s: &[u8], given: &mut [u8; ROOM])
+fn case(rt: &impl Print, s: &[u8], given: &mut [u8; ROOM])
     requires { 1 ≤ length s.now }
 {
     let letter = s[0];
@@ -61,6 +61,7 @@ fn case(s: &[u8], given: &mut [u8; ROOM])
     let n = hex::words(&s[from..], given);
     let all: &[u8] = given;
     perform(
+        rt,
         letter,
         number(&s[name..one]),
         number(&s[one..two]),
@@ -68,30 +69,44 @@ fn case(s: &[u8], given: &mut [u8; ROOM])
     );
 }
 
-fn interpret(s: &[u8], given: &mut [u8; ROOM]) {
+fn interpret(rt: &impl Print, s: &[u8], given: &mut [u8; ROOM]) {
     if s.len() == 0 {
         return;
     }
     if s[0] == b'#' {
-        return text(s);
+        return text(rt, s);
     }
-    case(s, given);
+    case(rt, s, given);
 }
 
 // Line by line.
-fn run_script(s: &[u8]) {
+fn run_script(rt: &impl Print, s: &[u8]) {
     let mut given = [0u8; ROOM];
     let mut at = 0;
     while at < s.len() {
-        let end = bytes::scan::find(s, at, s.len(), b'\n');
-        interpret(&s[at..end], &mut given);
-        end_line();
+        let end = find(s, at, b'\n');
+        interpret(rt, &s[at..end], &mut given);
+        end_line(rt);
         at = end + 1;
     }
 }
 
-fn main() {
+// Reads until the room is full, the input ends or a read fails: how many octets came.
+fn read_full(input: &mut impl Read, room: &mut [u8]) -> usize
+    ensures { result ≤ length room.new }
+{
+    let mut n = 0;
+    while n < room.len() {
+        match input.read(&mut room[n..]) {
+            Ok(0) | Err(_) => return n,
+            Ok(more) => n += more,
+        }
+    }
+    n
+}
+
+fn main(rt: HostRuntime) {
     let mut script = [0u8; 16384];
-    let n = io::read_full(STDIN_FILENO, &mut script);
-    run_script(&script[..n]);
+    let n = read_full(&mut rt.stdin(), &mut script);
+    run_script(&rt, &script[..n]);
 }

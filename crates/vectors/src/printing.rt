@@ -1,41 +1,38 @@
-use libc::STDOUT_FILENO;
-
-pub fn text(t: &[u8]) {
-    io::write_all(STDOUT_FILENO, t);
+// Pieces of a line on standard output; what cannot be written is lost.
+pub fn text(rt: &impl Print, t: &[u8]) {
+    let _ = rt.write_all(t);
 }
 
-pub fn end_line() {
-    text(b"\n");
+pub fn end_line(rt: &impl Print) {
+    text(rt, b"\n");
 }
 
-pub fn value(key: &[u8], n: usize) {
-    text(key);
-    io::print_decimal(STDOUT_FILENO, n as u64);
+pub fn value(rt: &impl Print, key: &[u8], n: usize) {
+    text(rt, key);
+    let _ = rt.print(n);
 }
 
-pub fn flag(key: &[u8], b: bool) {
+pub fn flag(rt: &impl Print, key: &[u8], b: bool) {
     if b {
-        value(key, 1);
+        value(rt, key, 1);
     } else {
-        value(key, 0);
+        value(rt, key, 0);
     }
 }
 
 // A check, in four hex digits.
-pub fn check(key: &[u8], n: u16) {
-    text(key);
-    io::print_hex(STDOUT_FILENO, n as u64, 4);
+pub fn check(rt: &impl Print, key: &[u8], n: u16) {
+    text(rt, key);
+    let _ = print!(rt; "{n:04x}");
 }
 
-fn octet(b: u8) {
-    io::print_hex(STDOUT_FILENO, b as u64, 2);
+fn octet(rt: &impl Print, b: u8) {
+    let _ = print!(rt; "{b:02x}");
 }
 
-pub fn octets(key: &[u8], s: &[u8]) {
-    text(key);
-    let mut i = 0;
-    while i < s.len() {
-        octet(s[i]);
-        i += 1;
+pub fn octets(rt: &impl Print, key: &[u8], s: &[u8]) {
+    text(rt, key);
+    for b in s {
+        octet(rt, *b);
     }
 }

@@ -9,37 +9,37 @@ const OUTPUT: usize = 8192;
 
 const BLANK: u8 = 0xEE;
 
-fn end(e: End) {
+fn end(rt: &impl Print, e: End) {
     match e {
-        End::Foreign => value(b"walk end=foreign number=", 0),
-        End::Exact => value(b"walk end=exact number=", 0),
-        End::Cut(k) => value(b"walk end=cut number=", k),
-        End::Oversize(r) => value(b"walk end=oversize number=", r),
+        End::Foreign => value(rt, b"walk end=foreign number=", 0),
+        End::Exact => value(rt, b"walk end=exact number=", 0),
+        End::Cut(k) => value(rt, b"walk end=cut number=", k),
+        End::Oversize(r) => value(rt, b"walk end=oversize number=", r),
     }
 }
 
-fn tally(t: Tally) {
-    value(b" delivered=", t.delivered);
-    value(b" idle=", t.idle);
-    value(b" filled=", t.filled);
+fn tally(rt: &impl Print, t: Tally) {
+    value(rt, b" delivered=", t.delivered);
+    value(rt, b" idle=", t.idle);
+    value(rt, b" filled=", t.filled);
 }
 
 // The octets that are filled, and the check of all.
-fn filled(n: usize, output: &[u8]) {
+fn filled(rt: &impl Print, n: usize, output: &[u8]) {
     let m = octets::lesser(n, output.len());
-    octets(b" octets=", &output[0..m]);
-    check(b" check=", crc::syndrome(output));
+    octets(rt, b" octets=", &output[0..m]);
+    check(rt, b" check=", crc::syndrome(output));
 }
 
-fn ended(e: Ended, output: &[u8]) {
+fn ended(rt: &impl Print, e: Ended, output: &[u8]) {
     let why = e.end;
     let t = e.tally;
-    end(why);
-    tally(t);
-    filled(t.filled, output);
+    end(rt, why);
+    tally(rt, t);
+    filled(rt, t.filled, output);
 }
 
-fn walked(from: usize, limit: usize, field: &[u8])
+fn walked(rt: &impl Print, from: usize, limit: usize, field: &[u8])
     requires { (from ≤ length field.now) × (length field.now ≤ limit) × (length field.now ≤ from + 8192) }
 {
     let mut output = [BLANK; OUTPUT];
@@ -49,22 +49,22 @@ fn walked(from: usize, limit: usize, field: &[u8])
         filled: 0,
     };
     let e = walk::walk(field, from, limit, &mut output, start);
-    ended(e, &output);
+    ended(rt, e, &output);
 }
 
-fn outside() {
-    text(b"walk outside");
+fn outside(rt: &impl Print) {
+    text(rt, b"walk outside");
 }
 
-pub fn walk(from: usize, limit: usize, field: &[u8]) {
+pub fn walk(rt: &impl Print, from: usize, limit: usize, field: &[u8]) {
     if field.len() < from {
-        return outside();
+        return outside(rt);
     }
     if limit < field.len() {
-        return outside();
+        return outside(rt);
     }
     if OUTPUT < field.len() - from {
-        return outside();
+        return outside(rt);
     }
-    walked(from, limit, field)
+    walked(rt, from, limit, field)
 }

@@ -7,19 +7,27 @@ pub fn end(line: &[u8], at: usize) -> usize
     ensures { (at ≤ result) × (result ≤ length line.now) }
 {
     if at < line.len() {
-        return bytes::scan::find(line, at + 1, line.len(), b' ');
+        return find(line, at + 1, b' ');
     }
     at
+}
+
+// Where the octet stands first from `from` on, or the length where it doesn't.
+pub fn find(s: &[u8], from: usize, octet: u8) -> usize
+    requires { from ≤ length s.now }
+    ensures { (from ≤ result) × (result ≤ length s.now) }
+{
+    match s[from..].iter().position(|b| *b == octet) {
+        Some(n) => from + n,
+        None => s.len(),
+    }
 }
 
 // A number of at most seven digits; a space counts as 0, as its code modulo 16 is.
 pub fn number(word: &[u8]) -> usize {
     let mut n: usize = 0;
-    let mut i = 0;
-    while i < word.len() {
-        let b = word[i];
-        n = n % 1000000 * 10 + (b % 16) as usize;
-        i += 1;
+    for b in word {
+        n = n % 1000000 * 10 + (*b % 16) as usize;
     }
     n
 }

@@ -1,0 +1,9 @@
+-- its header, its length and its octets, one behind the other.
+use Rattle.writing.proofs.LayingLaws.{idle_laid}
+use borrow.Author.Rules.{rules}
+use Rattle.laying.proofs.lay_idle_packet.Goals as goal
+
+pub returns : goal.returns
+returns c = let a = c.args in
+    let p = c.requires in
+    idle_laid a.field.now _ _ _ a.at a.n p.0 p.2 c.put32.ensures c.put16.ensures c.fill.ensures
