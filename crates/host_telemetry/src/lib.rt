@@ -3,6 +3,7 @@
 
 ghost use Rattle.host_answers.specs.Answer.{given_place};
 ghost use Rattle.host.specs.Answer.{given_word, set_up_of};
+ghost use Rattle.octets.specs.Octets.{Octets};
 ghost use Rattle.host_telemetry.specs.Calls.{BusyCall, ReadCall, WriteCall};
 
 use frame::{ChannelCount, MasterCount};
@@ -10,6 +11,11 @@ use host::{control_word, lay, set_up};
 use host_answers::{answer_read, answer_write};
 use host_words::{see, unpack};
 use writing::Place;
+
+// What the type says of a slice, kept as a fact about the slice as it was lent.
+fn are_octets(s: &[u8])
+    ensures { Octets s.now }
+{}
 
 // Reads a frame into the saved record, its store and the output.
 pub fn scowdeck_read(
@@ -26,6 +32,7 @@ pub fn scowdeck_read(
 {
     let set = set_up(length, spacecraft, error_control);
     let rec = unpack(&words[..]);
+    are_octets(&store[..]);
     let o = reader::read_core(set, rec, frame, store, output);
     answer_read(o, words, answer)
 }
