@@ -27,7 +27,7 @@ CHOSEN = {
     "case-of": "packet_case", "chain-of": "chain_of_lem", "course-by": "course_by_lem", "digits_from": "digits_from_lem",
     "distance-in": "distance_in_lem", "header-octets": "header_octets_lem", "length-field": "length_field_lem",
     "lowest-from": "lowest_from_lem", "mask-from": "mask_from_lem", "short-idle": "short_idle_lem", "tallied-all": "tallied_all_lem",
-    "under-way": "under_way_lem", "values-of": "values_of_lem", "whole_in": "whole_in_lem", "word-octets": "word_octets_lem",
+    "values-of": "values_of_lem", "whole_in": "whole_in_lem", "word-octets": "word_octets_lem",
     "word_number": "word_number_lem", "ended_by": "ended_by_lem", "arrived-whole": "arrived_whole_lem",
     "channel-follows": "channel_follows_lem", "frame-written": "frame_written_lem", "packets-in": "packets_in_lem",
     "part-after": "part_after_lem", "state-follows": "state_follows_lem", "skips-out": "skips_out_lem",

@@ -207,7 +207,7 @@ module _ (F : Family) (laws : Lawful F) (limit : ℕ) (c : Channel) (part field 
         continued =
             record {
               k = k;
-              under_way_lem = way;
+              under_way = way;
               some_new = omega (arith, long, above);
               ends_here = omega (arith, long, there);
               octets = rw long across;
@@ -247,7 +247,7 @@ module _ (F : Family) (laws : Lawful F) (limit : ℕ) (c : Channel) (part field 
           go (stops w i q) = none_good (ended (walk_of F limit run)) w (nothing_held i) q (λ z. absurd (z packets))
           go (holds w i q o) =
               none_good (ended (walk_of F limit run)) w
-              (one_goes_on (record { k = k; under_way_lem = way; octets = i; points = open_points s e g o }) w) q (λ z. absurd (z packets))
+              (one_goes_on (record { k = k; under_way = way; octets = i; points = open_points s e g o }) w) q (λ z. absurd (z packets))
           go (packet n t w i j) =
               continued_good n t (agreed (length field) k n a.header.pointer way.some_held (rw (sym e ∙ t.told) at g))
               (ended (walk_of F limit run)) (ended (walk_of F limit (drop n run))) w i (walk_in_row F laws limit run)

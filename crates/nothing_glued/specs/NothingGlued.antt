@@ -50,7 +50,7 @@ PointsBehind D end pointer = ((end < D) × (pointer ≡ end)) ⊎ ((end ≡ D) �
 -- this field ends it, and p is the whole of it; `part` is the channel's part of the store before the call
 pub record Continued (c : Channel) (part field : List ℕ) (a : Report) (p : List ℕ) : Type 0 where
   pub k : ℕ
-  pub under_way_lem : CarriedOn c a k
+  pub under_way : CarriedOn c a k
   pub some_new : k < length p
   pub ends_here : length p ≤ k + length field
   -- held octets followed by octets of this field: the k held ones, then the first of this field
@@ -61,7 +61,7 @@ pub record Continued (c : Channel) (part field : List ℕ) (a : Report) (p : Lis
 -- this field does not end it, and what was held and all of this field is held on
 pub record GoesOn (c : Channel) (part field : List ℕ) (a : Report) (held : List ℕ) : Type 0 where
   pub k : ℕ
-  pub under_way_lem : CarriedOn c a k
+  pub under_way : CarriedOn c a k
   pub octets : held ≡ take k part ++ field
   -- "goes on beyond, or its length is still unknown, the pointer must be 2047"
   pub points : a.header.pointer ≡ none_starts

@@ -1,6 +1,6 @@
 ghost use Rattle.reading.specs.Reading.{Read};
 
-use crate::core::read_core;
+use crate::by_value::read_core;
 use channel::Record;
 use frame::SetUp;
 use reading::{Answer, Outcome};

@@ -1,8 +1,8 @@
 // Reading a frame: the by-value core, tests 1 to 12 before the steps, and the thin entry over it.
 #![tactic(auto)]
 
-mod core;
+mod by_value;
 mod entry;
 
-pub use core::read_core;
+pub use by_value::read_core;
 pub use entry::{read, read_kept};

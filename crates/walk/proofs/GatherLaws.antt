@@ -143,10 +143,10 @@ held_there limit part k e follows =
     (omega arith, omega (arith, length-take k part))
 
 -- a total that the held octets and the field tell lies above k, and above the limit only if it is not all there
-pub under_way_lem : (limit : ℕ) (part field : List ℕ) (k n : ℕ) → length part ≡ limit → most_length ≤ limit → length field ≤ most_field
+pub under_way : (limit : ℕ) (part field : List ℕ) (k n : ℕ) → length part ≡ limit → most_length ≤ limit → length field ≤ most_field
     → state_follows source limit part (Gathering k) ≡ true → size_of (take k part ++ field) ≡ Total n → (k < n) × (limit < n → k + length field < n)
 unfolding judged
-under_way_lem limit part field k n lp wide few follows e = go (size_of (take k part)) refl (gathers limit part k follows).1
+under_way limit part field k n lp wide few follows e = go (size_of (take k part)) refl (gathers limit part k follows).1
   where
     go : (s : Size) → size_of (take k part) ≡ s → judged limit k s ≡ true → (k < n) × (limit < n → k + length field < n)
     go Wait p j =

@@ -1,0 +1,6 @@
+use Rattle.desk.proofs.CountLaws.{counts_refused}
+use borrow.Author.Rules.{rules}
+use Rattle.desk.proofs.counting.with_refusal.Goals as goal
+
+pub returns : goal.returns
+returns c = counts_refused _ _ _ c.more.ensures c.more-2.ensures

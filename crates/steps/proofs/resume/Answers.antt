@@ -1,0 +1,11 @@
+-- state by state.
+use mathlib.Core.Path.{◌≡◌}
+use Rattle.channel.specs.declared.state.State.TheVariants.{Hunting, Gathering, Skipping}
+use Rattle.walk.specs.Steps.{resumed}
+use borrow.Author.Rules.{rules}
+use Rattle.steps.proofs.resume.Goals as goal
+
+pub returns-in-Hunting : goal.returns-in-Hunting
+unfolding resumed
+returns-in-Hunting c = let e : c.args.state ≡ Hunting = c.in-Hunting.is in
+    rw e c.hunt.ensures
