@@ -4,8 +4,10 @@
     python3 tests/one_answer_test.py [ROOT]
 
 A public operation is a function that another crate, or C, can name: a `pub fn` of a crate's root file, one that the root passes on by
-`pub use`, an associated one, or one that is exported under its own name. Forms of `pub` that this test does not know are errors, so that
-none is passed over. Only the parts of decision 15 may have a `requires`. A line for each thing that is wrong, and exit status 1.
+`pub use`, or an associated one. Forms of `pub` that this test does not know are errors, so that none is passed over. Only the parts of
+decision 15 may have a `requires`. What C calls are the functions of the static libraries, which no crate can cite: each has to be, word for
+word in its head and its clauses, a function of a library that has its field, and to call that one alone. A line for each thing that is
+wrong, and exit status 1.
 """
 import re
 import sys
@@ -33,16 +35,20 @@ PARTS = {
     "host_answers": {"answer_read", "answer_write"},
 }
 
-FUNCTION = re.compile(r'^( *)pub (?:extern "C" )?fn (\w+)\(((?:[^()]|\(\))*)\)((?:.|\n)*?)\{\n', re.M)
+HEAD = re.compile(r"^( *)pub fn (\w+)\(((?:[^()]|\(\))*)\)(?: -> ([^{}\n]+?))?(?=\s*(?:requires|ensures|\{))", re.M)
+CLAUSE = re.compile(r"\s*(requires|ensures)( \w+)? \{")
 KNOWN = re.compile(
-    r'^ *(?:pub (?:extern "C" )?fn \w+\(|pub struct \w+(?: \{|;|\((?:pub \w+(?:, )?)+\);)|pub enum \w+ \{|pub const [A-Z_]+: '
-    r"|pub use \w+::\w+;|pub \w+: )"
+    r"^ *(?:pub fn \w+\(|pub struct \w+(?: \{|;|\((?:pub \w+(?:, )?)+\);)|pub enum \w+ \{|pub const [A-Z_]+: |pub use \w+::(?:\w+;|\{)|pub \w+: )"
 )
+PASSED_ON = re.compile(r"^pub use \w+::(?:(\w+)|\{([\w\s,]+)\});$", re.M)
+EXPORT = re.compile(r'^#\[unsafe\(no_mangle\)\]\npub extern "C" fn ', re.M)
 
 
-def libraries():
+def libraries(static=False):
+    """The names of the crates that are libraries and not APART, or else of the static libraries."""
     lines = (ROOT / "crates.txt").read_text().splitlines()
-    names = [line.split(":")[0].strip() for line in lines if ":" in line and not line.startswith("#")]
+    heads = [line.split(":")[0].split() for line in lines if ":" in line and not line.startswith("#")]
+    names = [head[0] for head in heads if ("staticlib" in head[1:]) == static]
     return [name for name in names if (ROOT / "crates" / name / "src/lib.rt").exists() and name not in APART]
 
 
@@ -50,32 +56,91 @@ def sources(crate):
     return {path: path.read_text() for path in sorted((ROOT / "crates" / crate / "src").rglob("*.rt"))}
 
 
+def closing(text, at):
+    """The place behind the brace that closes the one that opens right before `at`."""
+    depth = 1
+    while depth:
+        depth += {"{": 1, "}": -1}.get(text[at], 0)
+        at += 1
+    return at
+
+
+def functions(text):
+    """Of each public function: where it begins, its indent, name, parameters and result, its clauses, and its body."""
+    found = []
+    for m in HEAD.finditer(text):
+        at, clauses = m.end(), []
+        while clause := CLAUSE.match(text, at):
+            at = closing(text, clause.end())
+            clauses.append((clause[1], " ".join(text[clause.start() : at].split())))
+        body = re.compile(r"\s*\{").match(text, at)
+        if body:
+            found.append((m.start(), *m.groups(), clauses, text[body.end() : closing(text, body.end()) - 1]))
+    return found
+
+
 def operations(crate, wrong):
     """Each public operation's name in the crate's facade, with the places of its `&mut` parameters, whether it has a `requires`, and how many
     `ensures` it has."""
     files = sources(crate)
     root = files[ROOT / "crates" / crate / "src/lib.rt"]
-    passed_on = set(re.findall(r"^pub use \w+::(\w+);$", root, re.M))
+    passed_on = {name for one, some in PASSED_ON.findall(root) for name in re.findall(r"\w+", one + some)}
+    if len(PASSED_ON.findall(root)) != len(re.findall(r"^pub use ", root, re.M)):
+        wrong.append(f"{crate}: lib.rt: a `pub use` that this test cannot read")
     homes = {name: path.stem for path, text in files.items() for name in re.findall(r"^pub (?:struct|enum) (\w+)", text, re.M)}
     found = {}
     for path, text in files.items():
         for line in text.splitlines():
-            if re.search(r"\b(?:pub|extern)\b", line.split("//")[0]) and not KNOWN.match(line):
+            if re.search(r"\b(?:pub|extern|no_mangle)\b", line.split("//")[0]) and not KNOWN.match(line):
                 wrong.append(f"{crate}: {path.name}: a form of `pub` that is not known: {line.strip()}")
-        for m in FUNCTION.finditer(text):
-            inside, name, params, clauses = m.groups()
-            exported = text[: m.start()].rstrip().endswith("#[no_mangle]")
+        for start, inside, name, params, _, clauses, _ in functions(text):
             if inside:
-                kind = re.findall(r"^impl (\w+) \{", text[: m.start()], re.M)[-1]
+                kind = re.findall(r"^impl (\w+) \{", text[:start], re.M)[-1]
                 name = f"{kind}.{name}" if homes[kind] == "lib" else f"{homes[kind]}.{kind}.{name}"
-            elif not (path.name == "lib.rt" or name in passed_on or exported):
+            elif not (path.name == "lib.rt" or name in passed_on):
                 continue
             each = [p.strip() for p in re.split(r",(?![^<\[]*[>\]])", params) if p.strip()]
             lent = [i for i, p in enumerate(each) if re.search(r":\s*&mut\b", p)]
-            found[name] = (lent, "requires" in clauses, len(re.findall(r"^ *ensures\b", clauses, re.M)))
-        if len(FUNCTION.findall(text)) != len(re.findall(r'^ *pub (?:extern "C" )?fn ', text, re.M)):
+            kinds = [kind for kind, _ in clauses]
+            found[name] = (lent, "requires" in kinds, kinds.count("ensures"))
+        if len(functions(text)) != len(re.findall(r"^ *pub fn ", text, re.M)):
             wrong.append(f"{crate}: {path.name}: a public function whose head this test cannot read")
     return found
+
+
+def exported(wrong):
+    """Each function of a static library, which exports it, is a public function of the library that it calls, and says what that one says."""
+    def plain(text):
+        return re.sub(r"\s|,(?=\s*\))", "", text)
+
+    def meant(text):
+        uses = re.findall(r"^ghost use ([\w.]+)\.\{([^}]*)\};$", text, re.M)
+        return {(path, name.strip()) for path, names in uses for name in names.split(",")}
+
+    said, means = {}, {}
+    for crate in libraries():
+        text = sources(crate)[ROOT / "crates" / crate / "src/lib.rt"]
+        means[crate] = meant(text)
+        for _, inside, name, *rest, _ in functions(text):
+            if not inside:
+                said[crate, name] = rest
+    count = 0
+    for crate in libraries(static=True):
+        for path, text in sources(crate).items():
+            own = functions(EXPORT.sub("pub fn ", text))
+            count += len(own)
+            code = re.sub(r"//.*", "", text)
+            if len(own) != len(EXPORT.findall(text)) or len(own) != len(re.findall(r"\bfn\b", code)) or path.name != "lib.rt":
+                wrong.append(f"{crate}: {path.name}: a function that this test cannot read, or that is not exported")
+            for _, inside, name, params, result, clauses, body in own:
+                called = re.match(r"(\w+)::(\w+)\(", body.strip())
+                there = said.get(called.groups()) if called else None
+                names = re.findall(r"(?:^|,)\s*(\w+)\s*:", params)
+                if inside or not there or called[2] != name or plain(body) != plain(f"{called[1]}::{name}({','.join(names)})"):
+                    wrong.append(f"{crate}: {name} is not a call of a library's function of that name, with its own parameters")
+                elif [plain(params), result, clauses] != [plain(there[0]), *there[1:]] or not meant(text) <= means[called[1]]:
+                    wrong.append(f"{crate}: {name} does not say what {called[1]}::{name} says")
+    return count
 
 
 CLAUSES = {1: "one_clause _", 2: "two_clauses _ _", 3: "three_clauses _ _ _"}
@@ -120,9 +185,10 @@ def main():
                 wrong.append(f"{crate}: {name} lacks the field `{expected(alias, lent, part, ensures)}`")
     wrong += [f"{crate}: {name} is cited, and is no public operation" for crate, name in cited]
     wrong += [f"the field {name} is of no public operation" for name in fields]
+    for_c = exported(wrong)
     for line in wrong:
         print(f"one_answer_test: {line}")
-    print(f"one_answer_test: {count} public operations, {len(wrong)} wrong")
+    print(f"one_answer_test: {count} public operations, {for_c} of them for C, {len(wrong)} wrong")
     sys.exit(1 if wrong else 0)
 
 

@@ -66,8 +66,7 @@ fn close_number(c: Closed) -> u32
 }
 
 // Opens a frame: its header values, its control word, and where its data field lies.
-#[unsafe(no_mangle)]
-pub extern "C" fn scowdeck_open(
+pub fn scowdeck_open(
     length: u32,
     spacecraft: u32,
     error_control: u32,
@@ -84,8 +83,7 @@ pub extern "C" fn scowdeck_open(
 }
 
 // Closes a frame around the data field, which lies in its place in the output already. Of the pointer its low 11 bits are written.
-#[unsafe(no_mangle)]
-pub extern "C" fn scowdeck_close(
+pub fn scowdeck_close(
     length: u32,
     spacecraft: u32,
     error_control: u32,
@@ -116,8 +114,7 @@ pub extern "C" fn scowdeck_close(
 }
 
 // The 16-bit syndrome of a run of octets.
-#[unsafe(no_mangle)]
-pub extern "C" fn scowdeck_syndrome(octets: &[u8]) -> u32
+pub fn scowdeck_syndrome(octets: &[u8]) -> u32
     ensures { result ≡ syndrome_of octets.now }
 {
     crc::syndrome(octets) as u32

@@ -3,6 +3,7 @@
 
 ghost use Rattle.host_answers.specs.Answer.{given_place};
 ghost use Rattle.host.specs.Answer.{given_word, set_up_of};
+ghost use Rattle.octets.specs.Octets.{Octets};
 ghost use Rattle.host_telemetry.specs.Calls.{BusyCall, ReadCall, WriteCall};
 
 use frame::{ChannelCount, MasterCount};
@@ -11,9 +12,13 @@ use host_answers::{answer_read, answer_write};
 use host_words::{see, unpack};
 use writing::Place;
 
+// What the type says of a slice, kept as a fact about the slice as it was lent.
+fn are_octets(s: &[u8])
+    ensures { Octets s.now }
+{}
+
 // Reads a frame into the saved record, its store and the output.
-#[unsafe(no_mangle)]
-pub extern "C" fn scowdeck_read(
+pub fn scowdeck_read(
     length: u32,
     spacecraft: u32,
     error_control: u32,
@@ -27,13 +32,13 @@ pub extern "C" fn scowdeck_read(
 {
     let set = set_up(length, spacecraft, error_control);
     let rec = unpack(&words[..]);
+    are_octets(&store[..]);
     let o = reader::read_core(set, rec, frame, store, output);
     answer_read(o, words, answer)
 }
 
 // Writes one frame into the output.
-#[unsafe(no_mangle)]
-pub extern "C" fn scowdeck_write(
+pub fn scowdeck_write(
     length: u32,
     spacecraft: u32,
     error_control: u32,
@@ -63,8 +68,7 @@ pub extern "C" fn scowdeck_write(
 }
 
 // The busy mask of a saved record, from its states alone.
-#[unsafe(no_mangle)]
-pub extern "C" fn scowdeck_busy(words: &[u32], answer: &mut [u32]) -> u32
+pub fn scowdeck_busy(words: &[u32], answer: &mut [u32]) -> u32
     ensures { BusyCall words.now answer.old result answer.new }
 {
     let rec = see(words);
