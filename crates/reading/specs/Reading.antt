@@ -6,7 +6,6 @@ use Rattle.octets.specs.Pick.{pick}
 use Rattle.packet.specs.Family.{Family}
 use Rattle.packet.specs.Size.{most, source}
 use Rattle.frame.specs.Opening.{row1, frame_table, frame_of, idle_data}
-use Rattle.frame.specs.Header.{channels}
 use Rattle.table.specs.Table.{Row, row, first_cause}
 use Rattle.frame.specs.declared.header.Header.{Header}
 use Rattle.frame.specs.declared.opening.Frame.{Frame}

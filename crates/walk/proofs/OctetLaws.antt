@@ -1,7 +1,7 @@
 -- Octets of the store: those of a part, and of a store with another part.
 -- Assumes nothing.
 use mathlib.Core.List.{List, ◌++◌}
-use Prim.Native.Nat.{ℕ, ◌+◌, ◌-◌}
+use Prim.Native.Nat.{ℕ, ◌+◌}
 use lib.ListN.{take, drop}
 use Rattle.channel.specs.Store.{part_place, part_of, with_part}
 use Rattle.octets.specs.Octets.{Octets}

@@ -2,7 +2,6 @@
 use native.Mathlib.Omega.{arith}
 use Rattle.channel.specs.Store.{part_place}
 use Rattle.reading.proofs.AcceptLaws.{fits_cut, follows_cut, read_by}
-use borrow.Author.Rules.{rules}
 use Rattle.accepting.proofs.accept.Goals as goal
 
 pub overflow_add-end : goal.overflow_add-end

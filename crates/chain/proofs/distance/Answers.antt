@@ -1,11 +1,11 @@
 -- before the offset the distance is counted from a packet's start, and behind it by difference.
 use mathlib.Core.Path.{◌≡◌}
-use Prim.Native.Nat.{◌-◌, ◌≤◌}
+use Prim.Native.Nat.{◌≤◌}
 use native.Mathlib.Omega.{arith}
 use lib.ListN.{drop}
 use borrow.Author.Rules.{rules}
 use Rattle.packet.specs.Chain.{front_of}
-use Rattle.packet.proofs.ChainTurns.{looked, Passed, packet_is_fit, passed_start, passed_more, passed_front, passed_end}
+use Rattle.packet.proofs.ChainTurns.{looked, packet_is_fit, passed_start, passed_more, passed_front, passed_end}
 use Rattle.chain.proofs.distance.Goals as goal
 
 pub loop-at-init : goal.loop-at-init

@@ -4,13 +4,11 @@ use mathlib.Core.Bool.{true}
 use Prim.Native.Nat.{◌<◌}
 use native.Mathlib.Omega.{arith}
 use lib.ListN.{length}
-use borrow.Author.Tests.{not-true, not-false}
 use Rattle.frame.specs.declared.closing.CloseRefusal.TheVariants.{SetUpRange, ChannelAbove, OutputLength}
 use Rattle.frame.specs.SetUp.{fits_of}
 use Rattle.frame.proofs.ClosingLaws.{frame_written_lem, sizes}
 use Rattle.frame.proofs.ClosingSteps.{outside, above, other_length, passed, refused, written}
 use Rattle.frame.proofs.SetUpLaws.{in_range}
-use borrow.Author.Rules.{rules}
 use Rattle.closing.proofs.close.Goals as goal
 
 pub returns-then-not-fits : goal.returns-then-not-fits

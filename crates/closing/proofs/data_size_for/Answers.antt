@@ -2,7 +2,6 @@
 use mathlib.Core.Path.{◌∙◌, ap}
 use Rattle.frame.specs.Closing.{close_size}
 use Rattle.frame.specs.Opening.{data_size}
-use borrow.Author.Rules.{rules}
 use Rattle.closing.proofs.data_size_for.Goals as goal
 
 pub returns : goal.returns

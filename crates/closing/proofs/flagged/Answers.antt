@@ -1,5 +1,4 @@
 use mathlib.Core.Path.{sym, ap}
-use borrow.Author.Rules.{rules}
 use Rattle.frame.specs.Closing.{flagged_by}
 use Rattle.closing.proofs.flagged.Goals as goal
 

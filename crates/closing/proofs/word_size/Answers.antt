@@ -1,6 +1,5 @@
 use mathlib.Core.Path.{sym, ap}
 use lib.ListN.{length}
-use borrow.Author.Rules.{rules}
 use Rattle.octets.specs.Numbers.{octets_of}
 use Rattle.frame.specs.Closing.{word_octets}
 use Rattle.frame.specs.declared.closing.ControlWord.{ControlWord}

@@ -1,9 +1,6 @@
 -- the check over all octets before it, in the last two.
 use mathlib.Core.Path.{◌∙◌}
-use native.Mathlib.Omega.{arith}
-use lib.ListN.{length-take}
 use Rattle.frame.proofs.ClosingLaws.{check_laid, check_none}
-use borrow.Author.Rules.{rules}
 use Rattle.closing.proofs.write_check.Goals as goal
 
 pub returns-then-set : goal.returns-then-set

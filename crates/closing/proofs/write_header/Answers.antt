@@ -2,9 +2,8 @@
 use mathlib.Core.Path.{◌∙◌, sym, ap}
 use native.Mathlib.Omega.{arith}
 use Rattle.octets.specs.Laid.{laid}
-use Rattle.frame.proofs.ClosingLaws.{bit_lt, header_three, three_laid}
+use Rattle.frame.proofs.ClosingLaws.{header_three, three_laid}
 use Rattle.frame.proofs.SetUpLaws.{in_range}
-use borrow.Author.Rules.{rules}
 use Rattle.closing.proofs.write_header.Goals as goal
 
 pub returns : goal.returns

@@ -1,5 +1,4 @@
 use mathlib.Core.Path.{sym}
-use borrow.Author.Rules.{rules}
 use Rattle.octets.specs.Numbers.{octets_of}
 use Rattle.octets.proofs.Runs.{laid_nil}
 use Rattle.frame.specs.Closing.{word_octets}

@@ -1,10 +1,6 @@
 -- an idle packet is counted, and another stands in the output.
 use mathlib.Core.Path.{◌∙◌, sym}
-use Prim.Native.Nat.{◌-◌}
-use native.Mathlib.Omega.{arith}
-use lib.ListN.{length, length-take}
 use Rattle.walk.proofs.GatherLaws.{finish_idle, finish_delivered}
-use borrow.Author.Rules.{rules}
 use Rattle.gathering.proofs.finish.Goals as goal
 
 pub returns-then-idle_across : goal.returns-then-idle_across

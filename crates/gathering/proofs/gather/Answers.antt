@@ -11,8 +11,6 @@ use Rattle.walk.proofs.CutLaws.{cut_fits}
 use Rattle.walk.proofs.DoneLaws.{did_as, did_nothing, did_hold, ended_foreign, ended_oversize}
 use Rattle.walk.proofs.GatherLaws.{did_gather, gather_room, gathers, held_there, length_run, not_too_long, too_long, under_way, waits_room}
 use Rattle.walk.proofs.WalkLaws.{sees_few, sees_cut}
-use borrow.Author.Rules.{rules}
-use borrow.Author.Tests.{not-true, not-false}
 use Rattle.gathering.proofs.gather.Goals as goal
 
 pub overflow_add-there : goal.overflow_add-there

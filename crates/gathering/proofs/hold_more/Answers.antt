@@ -3,7 +3,6 @@ use mathlib.Core.Path.{◌∙◌}
 use native.Mathlib.Omega.{arith}
 use Rattle.walk.specs.Inside.{course_by}
 use Rattle.walk.proofs.GatherLaws.{laid_more}
-use borrow.Author.Rules.{rules}
 use Rattle.gathering.proofs.hold_more.Goals as goal
 
 pub returns : goal.returns

@@ -5,8 +5,7 @@ use Rattle.packet.proofs.Laws.{source_lawful}
 use Rattle.packet.specs.Size.{source}
 use Rattle.walk.proofs.CutLaws.{cut_fits}
 use Rattle.walk.proofs.DoneLaws.{did_as, did_nothing, did_walk}
-use Rattle.walk.proofs.StepLaws.{hunted_none, hunted_from, points_in, walk_room}
-use borrow.Author.Rules.{rules}
+use Rattle.walk.proofs.StepLaws.{hunted_none, hunted_from, points_in}
 use Rattle.gathering.proofs.hunt.Goals as goal
 
 pub returns-then-pointer-eq-NONE : goal.returns-then-pointer-eq-NONE

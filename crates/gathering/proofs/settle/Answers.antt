@@ -3,7 +3,6 @@ use mathlib.Core.Path.{◌≡◌, sym}
 use Rattle.octets.proofs.Runs.{laid_nil}
 use Rattle.walk.specs.declared.walking.End.{End}
 use Rattle.walk.specs.Inside.{CutFits, course_by, held_by}
-use borrow.Author.Rules.{rules}
 use Rattle.gathering.proofs.settle.Goals as goal
 
 pub hold-requires : goal.hold-requires

@@ -1,10 +1,7 @@
 -- after i turns the first i words are laid.
-use Prim.Native.Nat.{◌≤◌, ◌-◌, min}
-use mathlib.Core.List.{◌++◌}
-use mathlib.Core.Path.{◌≡◌, refl}
+use mathlib.Core.Path.{refl}
 use native.Mathlib.Omega.{arith}
-use lib.ListN.{length, take, drop, length-set}
-use borrow.Author.Rules.{rules}
+use lib.ListN.{length-set}
 use Rattle.host.proofs.LayLaws.{laid_turn, laid_end}
 use Rattle.host.proofs.lay.Goals as goal
 

@@ -1,11 +1,8 @@
 -- after i turns the first i words are laid.
 use Prim.Native.Nat.{◌≤◌, ◌-◌, min}
 use mathlib.Core.List.{◌++◌}
-use mathlib.Core.Path.{◌≡◌, refl}
-use native.Mathlib.Omega.{arith}
-use lib.ListN.{length, take, drop, length-set}
-use borrow.Author.Rules.{rules}
-use Rattle.host.proofs.LayLaws.{laid_turn, laid_end}
+use mathlib.Core.Path.{◌≡◌}
+use lib.ListN.{length, take, drop}
 use Rattle.host.proofs.lay.Given as goal
 
 abbrev pub invariant-loop-i : goal.invariant-loop-i

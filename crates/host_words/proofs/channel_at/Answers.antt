@@ -1,5 +1,4 @@
 -- the four words are those of the channel.
-use borrow.Author.Rules.{rules}
 use Rattle.host_words.proofs.WordLaws.{read_channel}
 use Rattle.host_words.proofs.channel_at.Goals as goal
 

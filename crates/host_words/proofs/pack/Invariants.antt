@@ -1,13 +1,9 @@
 -- after v turns the words of the first v channels are laid.
 use Prim.Native.Nat.{◌≤◌, ◌-◌}
-use mathlib.Core.Path.{◌≡◌, refl}
-use native.Mathlib.Omega.{arith}
+use mathlib.Core.Path.{◌≡◌}
 use lib.ListN.{length, take}
-use borrow.Author.Rules.{rules}
 use Rattle.octets.specs.Laid.{laid}
-use Rattle.channel.proofs.ListLaws.{length_any}
 use Rattle.host_words.specs.Words.{packed_all}
-use Rattle.host_words.proofs.WordLaws.{packed_none, packed_turn, packed_end}
 use Rattle.host_words.proofs.pack.Given as goal
 
 abbrev pub invariant-loop-v : goal.invariant-loop-v

@@ -1,7 +1,5 @@
 -- four stores lay the channel's words.
 use native.Mathlib.Omega.{arith}
-use lib.ListN.{length-set}
-use borrow.Author.Rules.{rules}
 use Rattle.host_words.proofs.WordLaws.{channel_words, stored_channel}
 use Rattle.host_words.proofs.put_channel.Goals as goal
 

@@ -1,4 +1,3 @@
-use borrow.Author.Rules.{rules}
 use Rattle.host_words.proofs.WordLaws.{seen_whole}
 use Rattle.host_words.proofs.see.Goals as goal
 

@@ -1,4 +1,3 @@
-use borrow.Author.Rules.{rules}
 use Rattle.host_words.proofs.WordLaws.{seen_one}
 use Rattle.host_words.proofs.seen_at.Goals as goal
 

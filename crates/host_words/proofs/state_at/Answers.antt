@@ -1,5 +1,4 @@
 use mathlib.Core.Path.{◌∙◌}
-use borrow.Author.Rules.{rules}
 use borrow.Author.Tests.{lt-ltb, le-ltb}
 use Rattle.host_words.specs.Busy.{state_at}
 use Rattle.host_words.proofs.state_at.Goals as goal

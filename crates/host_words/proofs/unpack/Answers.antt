@@ -1,5 +1,4 @@
 -- eight channels from 32 words, else eight that break the rules.
-use borrow.Author.Rules.{rules}
 use borrow.Author.Tests.{ne_eqb}
 use Rattle.host_words.specs.Words.{unpacked}
 use Rattle.host_words.proofs.WordLaws.{unpacked_whole}

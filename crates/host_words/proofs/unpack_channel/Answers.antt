@@ -1,6 +1,5 @@
 -- each test picks the channel that the words are.
 use mathlib.Core.Path.{◌∙◌}
-use borrow.Author.Rules.{rules}
 use borrow.Author.Tests.{lt-ltb, le-ltb}
 use Rattle.host_words.specs.Words.{unpacked_channel}
 use Rattle.host_words.proofs.unpack_channel.Goals as goal

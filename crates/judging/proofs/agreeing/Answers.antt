@@ -2,7 +2,6 @@
 use mathlib.Core.Path.{refl}
 use native.Mathlib.Omega.{arith}
 use Rattle.walk.proofs.StepLaws.{agrees_start, agrees_wait, agrees_foreign, agrees_total}
-use borrow.Author.Rules.{rules}
 use Rattle.judging.proofs.agreeing.Goals as goal
 
 pub returns-then-k-eq0 : goal.returns-then-k-eq0

@@ -1,6 +1,5 @@
 -- 0 if unheard, else the gap of the two counts.
 use Rattle.walk.specs.Steps.{gap_for}
-use borrow.Author.Rules.{rules}
 use Rattle.judging.proofs.gap_for.Goals as goal
 
 pub returns-then-channel : goal.returns-then-channel

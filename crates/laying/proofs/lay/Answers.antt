@@ -2,7 +2,6 @@
 use Prim.Native.Nat.{◌≤◌}
 use native.Mathlib.Omega.{arith}
 use Rattle.writing.proofs.LayingLaws.{filled_few, field_laid}
-use borrow.Author.Rules.{rules}
 use Rattle.laying.proofs.lay.Goals as goal
 
 pub overflow_add-result : goal.overflow_add-result

@@ -1,8 +1,4 @@
 -- at each return the tests that led there say which filler it is.
-use native.Mathlib.Omega.{arith}
-use Prim.Native.Nat.{◌-◌}
-use lib.ListN.{length, length-take}
-use Rattle.writing.specs.Laying.{short_idle}
 use Rattle.writing.proofs.LayingLaws.{filled_idle, filled_packet, filled_none, filled_begun}
 use borrow.Author.Rules.{rules}
 use Rattle.laying.proofs.lay_filler.Goals as goal

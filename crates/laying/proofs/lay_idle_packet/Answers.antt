@@ -1,6 +1,5 @@
 -- its header, its length and its octets, one behind the other.
 use Rattle.writing.proofs.LayingLaws.{idle_laid}
-use borrow.Author.Rules.{rules}
 use Rattle.laying.proofs.lay_idle_packet.Goals as goal
 
 pub returns : goal.returns

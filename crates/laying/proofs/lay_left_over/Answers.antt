@@ -3,7 +3,6 @@ use mathlib.Core.Path.{◌∙◌, ap}
 use lib.ListN.{length}
 use Rattle.octets.specs.Laid.{laid}
 use Rattle.writing.proofs.LayingLaws.{left_taken}
-use borrow.Author.Rules.{rules}
 use Rattle.laying.proofs.lay_left_over.Goals as goal
 
 pub returns : goal.returns

@@ -1,6 +1,5 @@
 -- at each return the tests that led there say which of the three it is.
 use Rattle.writing.proofs.LayingLaws.{points_idle, points_first, points_none}
-use borrow.Author.Rules.{rules}
 use Rattle.laying.proofs.pointer.Goals as goal
 
 pub returns-then-nothing : goal.returns-then-nothing

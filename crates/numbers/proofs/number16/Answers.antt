@@ -1,6 +1,5 @@
 use native.Mathlib.Omega.{arith}
 use Rattle.octets.proofs.Laws.{number_two}
-use borrow.Author.Rules.{rules}
 use Rattle.numbers.proofs.number16.Goals as goal
 
 pub returns : goal.returns

@@ -1,6 +1,5 @@
 use native.Mathlib.Omega.{arith}
 use Rattle.octets.proofs.Laws.{number_four}
-use borrow.Author.Rules.{rules}
 use Rattle.numbers.proofs.number32.Goals as goal
 
 pub returns : goal.returns

@@ -2,7 +2,6 @@
 use native.Mathlib.Omega.{arith}
 use lib.ListN.{length-set}
 use Rattle.octets.proofs.Laws.{stored_four}
-use borrow.Author.Rules.{rules}
 use Rattle.numbers.proofs.put32.Goals as goal
 
 pub bounds-s-at-2 : goal.bounds-s-at-2

@@ -5,7 +5,6 @@ use native.Mathlib.Omega.{arith}
 use Rattle.frame.proofs.HeaderLaws.{secondary_version_is}
 use Rattle.frame.proofs.RowLaws.{row9_tested, row9_passed}
 use Rattle.frame.specs.Opening.{secondary_version}
-use borrow.Author.Rules.{rules}
 use Rattle.opening.proofs.bad_secondary.Goals as goal
 
 pub returns-then-h : goal.returns-then-h

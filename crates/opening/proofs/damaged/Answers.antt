@@ -1,6 +1,5 @@
 -- row 6.
 use Rattle.frame.proofs.RowLaws.{row6_tested, row6_passed}
-use borrow.Author.Rules.{rules}
 use Rattle.opening.proofs.damaged.Goals as goal
 
 pub returns-then-set : goal.returns-then-set

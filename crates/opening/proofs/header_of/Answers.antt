@@ -2,7 +2,6 @@
 use mathlib.Core.Path.{refl}
 use native.Mathlib.Omega.{arith}
 use Rattle.frame.proofs.HeaderLaws.{header_is}
-use borrow.Author.Rules.{rules}
 use Rattle.opening.proofs.header_of.Goals as goal
 
 pub returns : goal.returns

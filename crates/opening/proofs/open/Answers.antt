@@ -1,8 +1,6 @@
 -- rows 1, 5 and 6, and the rest by `open_header`.
-use borrow.Author.Tests.{not-true, not-false}
 use mathlib.Core.Path.{◌∙◌, sym}
 use Rattle.frame.proofs.OpeningSteps.{outside, wrong_length, failed_check, checked}
-use borrow.Author.Rules.{rules}
 use Rattle.opening.proofs.open.Goals as goal
 
 pub returns-then-not-fits : goal.returns-then-not-fits

@@ -3,7 +3,6 @@ use mathlib.Core.Path.{◌∙◌, sym}
 use native.Mathlib.Omega.{arith}
 use Rattle.frame.proofs.OpeningSteps.{no_data, wrong_order, wrong_pointer, right_frame, filled}
 use Rattle.frame.proofs.SetUpLaws.{in_range}
-use borrow.Author.Rules.{rules}
 use Rattle.opening.proofs.open_data.Goals as goal
 
 pub secondary_size-s-requires : goal.secondary_size-s-requires

@@ -3,7 +3,6 @@ use mathlib.Core.Path.{◌∙◌, sym}
 use native.Mathlib.Omega.{arith}
 use Rattle.frame.proofs.OpeningSteps.{wrong_version, wrong_spacecraft, wrong_secondary, right_header}
 use Rattle.frame.proofs.SetUpLaws.{in_range}
-use borrow.Author.Rules.{rules}
 use Rattle.opening.proofs.open_header.Goals as goal
 
 pub other_version-requires : goal.other_version-requires

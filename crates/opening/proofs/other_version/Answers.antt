@@ -5,7 +5,6 @@ use mathlib.Core.Path.{◌≡◌}
 use Prim.Native.Nat.{◌/◌}
 use native.Mathlib.Omega.{arith}
 use Rattle.frame.proofs.HeaderLaws.{version_is}
-use borrow.Author.Rules.{rules}
 use Rattle.opening.proofs.other_version.Goals as goal
 
 pub returns : goal.returns

@@ -6,7 +6,6 @@ use Rattle.frame.proofs.HeaderLaws.{secondary_length_is}
 use native.Mathlib.Omega.{arith}
 use Rattle.frame.specs.Header.{secondary_header, length_less_one}
 use Rattle.frame.proofs.RowLaws.{size_there, size_none}
-use borrow.Author.Rules.{rules}
 use Rattle.opening.proofs.secondary_size.Goals as goal
 
 pub returns-then-h : goal.returns-then-h

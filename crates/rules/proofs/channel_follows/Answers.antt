@@ -1,6 +1,5 @@
 -- a heard channel by its state, an unheard one by its variant.
 use mathlib.Core.Path.{◌∙◌}
-use borrow.Author.Rules.{rules}
 use Rattle.channel.proofs.RuleLaws.{heard_follows, unheard_hunting, unheard_gathering, unheard_skipping}
 use Rattle.rules.proofs.channel_follows.Goals as goal
 

@@ -1,12 +1,10 @@
 -- the record follows exactly when the channels not passed yet do.
-use Prim.Native.Nat.{◌-◌, ◌≤◌}
 use mathlib.Core.Path.{◌≡◌, refl, ◌∙◌, sym}
 use native.Mathlib.Omega.{arith}
-use lib.ListN.{length, drop}
+use lib.ListN.{length}
 use borrow.Author.Rules.{rules}
-use borrow.Author.Tests.{not-true, not-false}
 use Rattle.packet.specs.Size.{most, source}
-use Rattle.channel.specs.Rules.{record_follows, all_follow}
+use Rattle.channel.specs.Rules.{record_follows}
 use Rattle.channel.specs.Store.{part_place}
 use Rattle.channel.proofs.ListLaws.{length_any}
 use Rattle.channel.proofs.RuleLaws.{follow_end, follow_next, follow_stop}

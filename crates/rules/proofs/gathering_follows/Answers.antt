@@ -1,10 +1,9 @@
 -- the octets are below the limit and in the part, or they break the rules.
-use mathlib.Core.Path.{◌∙◌, sym, ap}
+use mathlib.Core.Path.{◌∙◌, ap}
 use Prim.Native.Nat.{ℕ}
 use native.Mathlib.Omega.{arith}
 use lib.ListN.{take}
 use lib.Seq.{length-take-le}
-use borrow.Author.Rules.{rules}
 use Rattle.packet.specs.Size.{most, source, size_of}
 use Rattle.channel.specs.Rules.{judged}
 use Rattle.channel.proofs.RuleLaws.{gathers_below, gathers_above, gathers_short}

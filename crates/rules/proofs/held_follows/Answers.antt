@@ -1,7 +1,6 @@
 -- the size's variant decides, and of a total the two tests.
 use mathlib.Core.Path.{◌≡◌, ◌∙◌, sym}
 use native.Mathlib.Omega.{arith}
-use borrow.Author.Rules.{rules}
 use Rattle.packet.specs.Size.{size_of}
 use Rattle.packet.specs.declared.source.Size.TheVariants.{Total}
 use Rattle.packet.proofs.Laws.{fits_by_limit}

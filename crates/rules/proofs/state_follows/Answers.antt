@@ -1,8 +1,6 @@
 -- the state's variant decides, and then its tests.
-use mathlib.Core.Path.{◌∙◌, sym, ap}
 use native.Mathlib.Omega.{arith}
-use borrow.Author.Rules.{rules}
-use Rattle.packet.specs.Size.{most, source}
+use Rattle.packet.specs.Size.{source}
 use Rattle.channel.specs.Rules.{state_follows}
 use Rattle.channel.proofs.RuleLaws.{skips_none, skips_some}
 use Rattle.rules.proofs.state_follows.Goals as goal

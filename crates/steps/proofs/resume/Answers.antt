@@ -1,8 +1,7 @@
 -- state by state.
 use mathlib.Core.Path.{◌≡◌}
-use Rattle.channel.specs.declared.state.State.TheVariants.{Hunting, Gathering, Skipping}
+use Rattle.channel.specs.declared.state.State.TheVariants.{Hunting}
 use Rattle.walk.specs.Steps.{resumed}
-use borrow.Author.Rules.{rules}
 use Rattle.steps.proofs.resume.Goals as goal
 
 pub returns-in-Hunting : goal.returns-in-Hunting

@@ -3,7 +3,6 @@ use Rattle.packet.specs.Size.{source}
 use Rattle.walk.proofs.DoneLaws.{did_as, did_disagreed}
 use Rattle.walk.proofs.GatherLaws.{held_there}
 use Rattle.walk.proofs.StepLaws.{agreed, gathers_on, gathers_apart}
-use borrow.Author.Rules.{rules}
 use Rattle.steps.proofs.resume_gathering.Goals as goal
 
 pub slice_bounds-size_across-end : goal.slice_bounds-size_across-end

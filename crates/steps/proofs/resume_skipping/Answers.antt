@@ -5,8 +5,7 @@ use Rattle.packet.proofs.Laws.{source_lawful}
 use Rattle.packet.specs.Size.{source}
 use Rattle.walk.proofs.CutLaws.{cut_fits}
 use Rattle.walk.proofs.DoneLaws.{did_as, did_disagreed, did_nothing, did_walk}
-use Rattle.walk.proofs.StepLaws.{skips_apart, skips_on, skips_out_lem, walk_room}
-use borrow.Author.Rules.{rules}
+use Rattle.walk.proofs.StepLaws.{skips_apart, skips_on, skips_out_lem}
 use Rattle.steps.proofs.resume_skipping.Goals as goal
 
 pub returns-then-pointer-called_at : goal.returns-then-pointer-called_at

@@ -6,7 +6,6 @@ use Rattle.packet.specs.Size.{source}
 use Rattle.walk.specs.Steps.{carries_none}
 use Rattle.walk.proofs.DoneLaws.{did_as, did_broke, did_nothing}
 use Rattle.walk.proofs.StepLaws.{carries_packets, state_follows_lem, steps_none, steps_gap, steps_on}
-use borrow.Author.Rules.{rules}
 use Rattle.steps.proofs.steps.Goals as goal
 
 -- a frame with packets

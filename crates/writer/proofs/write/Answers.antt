@@ -1,9 +1,7 @@
 -- the first cause found, else the frame.
 use mathlib.Core.Path.{◌∙◌, sym}
-use borrow.Author.Tests.{not-true, not-false}
 use Rattle.writing.specs.declared.Refusal.TheVariants.{SetUpRange, ChannelAbove, RunLength, NotAChain, OffsetPast, LeftOver, OutputLength}
 use Rattle.writing.proofs.WritingSteps.{outside, above, too_long, no_chain, past, bad_left, other_length, passed, ready, refused, written}
-use borrow.Author.Rules.{rules}
 use Rattle.writer.proofs.write.Goals as goal
 
 pub returns-then-not-fits : goal.returns-then-not-fits

@@ -3,7 +3,6 @@ use mathlib.Core.Path.{◌≡◌}
 use native.Mathlib.Omega.{arith}
 use Rattle.packet.proofs.ChainTurns.{distance_within}
 use Rattle.writing.proofs.FrameLaws.{fits_in, small, length_midst, none_over, some_over, wrote_by}
-use borrow.Author.Rules.{rules}
 use Rattle.writing.specs.Laying.{nothing_of}
 use Rattle.writer.proofs.write_frame.Goals as goal
 use Rattle.writer.proofs.write_frame.Goals.{then-left_over-eq0, else-left_over-eq0}

@@ -1,5 +1,4 @@
 -- the state's variant decides.
-use borrow.Author.Rules.{rules}
 use Rattle.channel.specs.Busy.{busy_state}
 use Rattle.channel.proofs.busy.busy_state.Goals as goal
 

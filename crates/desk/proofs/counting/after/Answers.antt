@@ -1,5 +1,4 @@
 use Rattle.desk.proofs.CountLaws.{after_refused, after_accepted}
-use borrow.Author.Rules.{rules}
 use Rattle.desk.proofs.counting.after.Goals as goal
 
 pub returns-in-Refused : goal.returns-in-Refused

@@ -1,6 +1,5 @@
 -- each sum is what `more` says of its own count.
 use Rattle.desk.proofs.CountLaws.{counts_each}
-use borrow.Author.Rules.{rules}
 use Rattle.desk.proofs.counting.counted.Goals as goal
 
 pub returns : goal.returns

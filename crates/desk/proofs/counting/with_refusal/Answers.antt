@@ -1,5 +1,4 @@
 use Rattle.desk.proofs.CountLaws.{counts_refused}
-use borrow.Author.Rules.{rules}
 use Rattle.desk.proofs.counting.with_refusal.Goals as goal
 
 pub returns : goal.returns

@@ -5,7 +5,7 @@ use borrow.Author.Rules.{rules}
 use lib.ListN.{drop}
 use Rattle.packet.specs.Chain.{front_of}
 use Rattle.packet.proofs.ChainTurns.{looked}
-use Rattle.desk.proofs.Spans.{Passed, passed_start, passed_more, passed_end}
+use Rattle.desk.proofs.Spans.{passed_start, passed_more, passed_end}
 use Rattle.desk.proofs.saving.span.Goals as goal
 
 pub loop-left-init : goal.loop-left-init

@@ -3,8 +3,6 @@ use mathlib.Core.Path.{◌≡◌}
 use Prim.Native.Nat.{◌≤◌, ◌-◌}
 use lib.ListN.{length, drop}
 use Rattle.desk.specs.Numbers.{digits_from, decimal_of}
-use Rattle.desk.proofs.Spelling.{no_word, from_start, not_a_digit, too_large, digit_more, no_more}
-use borrow.Author.Rules.{rules}
 use Rattle.desk.proofs.words.spelt.Given as goal
 
 abbrev pub invariant-loop-i : goal.invariant-loop-i

@@ -1,6 +1,5 @@
 -- D.
-use Rattle.octets.proofs.Laws.{pick_le}
-use Rattle.std.proofs.Common.{arith, rules}
+use Rattle.std.proofs.Common.{arith}
 use Rattle.frame.specs.Opening.{data_size}
 use Rattle.frame.proofs.opening.data_size.Goals as goal
 

@@ -1,7 +1,6 @@
 -- an octet has no bits above the version.
 use native.Mathlib.Omega.{arith}
 use Rattle.packet.proofs.HeaderLaws.{version_is}
-use borrow.Author.Rules.{rules}
 use Rattle.packet.proofs.header.version.Goals as goal
 
 pub returns : goal.returns

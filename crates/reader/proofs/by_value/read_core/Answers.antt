@@ -1,5 +1,5 @@
 -- Each test is a row of the table, and the frame part answers for its own.
-use Rattle.std.proofs.Common.{◌≡◌, Bool, true, false, ◌∙◌, sym}
+use Rattle.std.proofs.Common.{◌≡◌, Bool, ◌∙◌, sym}
 use Rattle.packet.specs.Size.{most, source}
 use Rattle.reading.proofs.ReadLaws.{at_set_up, at_store, at_output, at_record, at_frame, at_none, refuses, accepts, ready}
 use Rattle.reader.proofs.by_value.read_core.Goals as goal

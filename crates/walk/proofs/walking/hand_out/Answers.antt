@@ -1,7 +1,6 @@
 use mathlib.Core.Path.{◌∙◌, sym}
 use Rattle.packet.specs.Size.{source}
 use Rattle.walk.proofs.WalkLaws.{idle_tally, idle_output, delivered_tally, delivered_output}
-use borrow.Author.Rules.{rules}
 use Rattle.walk.proofs.walking.hand_out.Goals as goal
 
 pub returns-then-idle : goal.returns-then-idle

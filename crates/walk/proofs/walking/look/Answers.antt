@@ -1,7 +1,6 @@
 -- what the size and the tests say of the front.
 use mathlib.Core.Path.{◌≡◌, ◌∙◌, sym}
 use native.Mathlib.Omega.{arith}
-use borrow.Author.Tests.{not-true, not-false}
 use Rattle.packet.specs.Size.{size_of, source}
 use Rattle.packet.specs.declared.source.Size.TheVariants.{Total}
 use Rattle.walk.proofs.GatherLaws.{too_long, not_too_long}

@@ -1,5 +1,5 @@
 -- the mask is that of the channels passed, from the last down.
-use Prim.Native.Nat.{ℕ, ◌≤◌}
+use Prim.Native.Nat.{ℕ}
 use mathlib.Core.Path.{◌≡◌, ◌∙◌, ap}
 use native.Mathlib.Omega.{arith}
 use lib.ListN.{length, drop}

@@ -1,12 +1,8 @@
 -- the mask is that of the channels passed, from the last down.
-use Prim.Native.Nat.{ℕ, ◌≤◌}
-use mathlib.Core.Path.{◌≡◌, ◌∙◌, ap}
-use native.Mathlib.Omega.{arith}
+use Prim.Native.Nat.{◌≤◌}
+use mathlib.Core.Path.{◌≡◌}
 use lib.ListN.{length, drop}
-use borrow.Author.Rules.{rules}
 use Rattle.channel.specs.Busy.{mask_of}
-use Rattle.channel.proofs.ListLaws.{length_any}
-use Rattle.channel.proofs.MaskLaws.{mask_none, mask_turn, mask_room}
 use Rattle.channel.proofs.state.Record.busy.Given as goal
 
 abbrev pub invariant-loop-v : goal.invariant-loop-v

@@ -1,7 +1,6 @@
 -- the ones of the mask.
 use mathlib.Core.Path.{◌∙◌, ap}
 use lib.Count.{ones}
-use borrow.Author.Rules.{rules}
 use Rattle.channel.proofs.MaskLaws.{mask_ones}
 use Rattle.channel.proofs.state.Record.busy_count.Goals as goal
 

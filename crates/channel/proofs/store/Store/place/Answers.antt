@@ -1,5 +1,4 @@
 use mathlib.Core.Path.{refl}
-use borrow.Author.Rules.{rules}
 use Rattle.channel.specs.Store.{part_place}
 use Rattle.channel.proofs.store.Store.place.Goals as goal
 

@@ -1,4 +1,4 @@
-use Rattle.std.proofs.Common.{arith, rules}
+use Rattle.std.proofs.Common.{arith}
 use Rattle.frame.specs.Counts.{gap_of}
 use Rattle.frame.proofs.counts.ChannelCount.gap.Goals as goal
 

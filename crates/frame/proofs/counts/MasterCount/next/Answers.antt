@@ -1,4 +1,4 @@
-use Rattle.std.proofs.Common.{arith, rules}
+use Rattle.std.proofs.Common.{arith}
 use Rattle.frame.specs.Counts.{after}
 use Rattle.frame.proofs.counts.MasterCount.next.Goals as goal
 

@@ -2,7 +2,6 @@
 use mathlib.Core.Path.{◌∙◌, ap}
 use Prim.Native.Nat.{ℕ, ◌%◌}
 use Rattle.packet.proofs.HeaderLaws.{header_is}
-use borrow.Author.Rules.{rules}
 use Rattle.packet.proofs.header.Header.of.Goals as goal
 
 pub returns : goal.returns

@@ -1,7 +1,6 @@
 use mathlib.Core.Path.{◌∙◌}
 use Rattle.packet.specs.Header.{idle_of}
 use Rattle.packet.proofs.HeaderLaws.{application_is}
-use borrow.Author.Rules.{rules}
 use Rattle.packet.proofs.source.Packet.idle.Goals as goal
 
 pub returns : goal.returns

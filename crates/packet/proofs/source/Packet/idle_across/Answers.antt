@@ -6,7 +6,6 @@ use mathlib.Core.List.{◌++◌}
 use Rattle.octets.proofs.Laws.{number_two}
 use Rattle.packet.specs.Header.{application_of, idle_of}
 use Rattle.packet.proofs.HeaderLaws.{application_is}
-use borrow.Author.Rules.{rules}
 use Rattle.packet.proofs.source.Packet.idle_across.Goals as goal
 
 pub returns : goal.returns

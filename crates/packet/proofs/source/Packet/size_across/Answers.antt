@@ -1,7 +1,6 @@
 -- the first six octets lie in `head`, and no others tell.
-use mathlib.Core.Path.{refl, ◌∙◌, sym, ap}
+use mathlib.Core.Path.{refl, ◌∙◌, ap}
 use native.Mathlib.Omega.{arith}
-use lib.Seq.{length-take-le}
 use Rattle.packet.specs.Size.{size_of}
 use Rattle.packet.proofs.Laws.{held_tell, across, head_is}
 use borrow.Author.Rules.{rules}

@@ -1,7 +1,6 @@
 -- two octets hold the length field.
 use native.Mathlib.Omega.{arith}
 use Rattle.packet.proofs.HeaderLaws.{total_is}
-use borrow.Author.Rules.{rules}
 use Rattle.packet.proofs.source.Packet.total.Goals as goal
 
 pub returns : goal.returns
