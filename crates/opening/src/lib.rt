@@ -90,6 +90,7 @@ fn word_at(h: Header, frame: &[u8], end: usize) -> u32
 }
 
 // Tests 10 to 12, and what the frame gives.
+#[tactic(auto, using(frame::proofs::OpeningSteps::no_data))]
 fn open_data(set: SetUp, h: Header, frame: &[u8]) -> Opened
     requires { (fits_of set ≡ true) × (length frame.now ≡ set.length) × (h ≡ header_of frame.now) }
     ensures { result ≡ open_from 6 set frame.now }

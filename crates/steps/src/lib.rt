@@ -6,7 +6,7 @@ ghost use Rattle.packet.specs.Size.{source};
 ghost use Rattle.channel.specs.Rules.{channel_follows, state_follows};
 ghost use Rattle.frame.specs.Opening.{idle_data};
 ghost use Rattle.walk.specs.Inside.{Fit};
-ghost use Rattle.walk.specs.Steps.{Did, gap_for, resumed, steps_of};
+ghost use Rattle.walk.specs.Steps.{Did, carries_none, gap_for, resumed, steps_of};
 
 use channel::{Channel, State};
 use frame::Header;
@@ -79,6 +79,24 @@ fn resume(
     }
 }
 
+// Step 2 of a frame with packets, after a gap: a packet under way is broken off, and the channel hunts.
+fn after_gap(
+    field: &[u8],
+    h: Header,
+    channel: Channel,
+    gap: u8,
+    limit: usize,
+    part: &mut [u8],
+    out: &mut [u8],
+) -> Course
+    requires fit { Fit limit part.old field.now h.pointer out.old }
+    requires fact { h.pointer ≡ idle_data → ⊥ }
+    requires gap_value { (carries_none h ≡ false) × (gap ≡ gap_for channel h) × (gap ≡ 0 → ⊥) }
+    ensures { Did source (steps_of source limit part.old field.now h channel) result part.old part.new out.old out.new }
+{
+    break_off(channel.state, hunt(field, h.pointer, limit, part, out))
+}
+
 // Steps 2 to 5 of a frame with this gap.
 pub fn steps(
     field: &[u8],
@@ -99,7 +117,7 @@ pub fn steps(
         return break_off(state, plain(none_yet(), State::Hunting, 0, 0));
     }
     if gap != 0 {
-        return break_off(state, hunt(field, pointer, limit, part, out));
+        return after_gap(field, h, channel, gap, limit, part, out);
     }
     resume(field, state, pointer, limit, part, out)
 }

@@ -3,6 +3,7 @@
 
 ghost use Rattle.std.specs.Prelude.{◌≡◌};
 ghost use Rattle.writing.specs.Inside.{Ready, WroteBy};
+ghost use Rattle.writing.specs.Laying.{nothing_of};
 ghost use Rattle.writing.specs.Writing.{Wrote, row24};
 
 use frame::{ControlWord, Header, SetUp};
@@ -42,6 +43,14 @@ fn bad_left_over(run: usize, offset: usize, left_over: usize) -> bool
     offset != run
 }
 
+// Nothing of a left-over and nothing of the run is to be laid.
+#[tactic(auto, unfolding(writing::specs::Laying::nothing_of))]
+fn nothing_placed(run: &[u8], offset: usize, left_over: usize) -> bool
+    ensures { result ≡ nothing_of run.now offset left_over }
+{
+    left_over == 0 && offset == run.len()
+}
+
 // The frame itself, once all tests passed.
 fn write_frame(
     set: SetUp,
@@ -62,7 +71,7 @@ fn write_frame(
     let from = Header::SIZE;
     let to = from + d;
     let laid = lay(&mut output[from..to], run, offset, left_over);
-    let nothing = left_over == 0 && offset == run.len();
+    let nothing = nothing_placed(run, offset, left_over);
     let to_start = chain::distance(run, offset);
     let start = pointer(d, to_start, left_over, nothing);
     closing::close(set, channel, master, count, word, start, output);

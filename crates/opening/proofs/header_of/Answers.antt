@@ -6,7 +6,7 @@ use Rattle.opening.proofs.header_of.Goals as goal
 
 pub returns : goal.returns
 returns c = let f = c.args.frame.now in
-    let g = c.shared_slice_known-3-1.given in
+    let g = c.type_inv.frame in
     header_is f _ _ _ _
     (λ i. omega (arith, g i))
     c.number16-first.ensures.0

@@ -10,6 +10,6 @@ use Rattle.opening.proofs.other_version.Goals as goal
 pub returns : goal.returns
 unfolding row7
 returns c = let f = c.args.frame.now in
-    let g = c.shared_slice_known-1.given in
+    let g = c.type_inv.frame in
     let e : c.number16.result / 16384 ≡ version_of f = omega (arith, version_is f (λ i. omega (arith, g i))) in
     rw e

@@ -1,11 +1,12 @@
 -- idle and private frames, a gap, and else the state.
+use native.Mathlib.Omega.{arith}
 use mathlib.Core.Path.{◌≡◌, ◌∙◌, sym}
 use mathlib.Core.Bool.{Bool, false}
 use Rattle.frame.specs.declared.header.Header.{Header}
 use Rattle.packet.specs.Size.{source}
 use Rattle.walk.specs.Steps.{carries_none}
 use Rattle.walk.proofs.DoneLaws.{did_as, did_broke, did_nothing}
-use Rattle.walk.proofs.StepLaws.{carries_packets, state_follows_lem, steps_none, steps_gap, steps_on}
+use Rattle.walk.proofs.StepLaws.{carries_packets, state_follows_lem, steps_none, steps_on}
 use Rattle.steps.proofs.steps.Goals as goal
 
 -- a frame with packets
@@ -17,16 +18,12 @@ returns-then-carries_none c =
     did_as (steps_none source _ _ _ _ _ (sym c.carries_none.ensures ∙ c.if-carries_none.true))
     (did_broke _ (did_nothing source _ 0 0 _ _ _ _ c.none_yet.ensures c.plain.ensures) c.break_off.ensures)
 
-pub hunt-requires : goal.hunt-requires
-hunt-requires c =
-    let q = carries_packets c.args.h (packets c.args.h _ c.carries_none.ensures c.if-carries_none.false) in
-    record { fit = c.requires.fit q.0; fact = q.1 }
-
-pub returns-then-gap-ne0 : goal.returns-then-gap-ne0
-returns-then-gap-ne0 c =
-    did_as (steps_gap source _ _ _ _ _ (packets c.args.h _ c.carries_none.ensures c.if-carries_none.false)
-    (λ g. c.if-gap-ne0.true (c.requires.channel_value.1 ∙ g)))
-    (did_broke _ c.hunt.ensures c.break_off-then-gap-ne0.ensures)
+pub after_gap-requires : goal.after_gap-requires
+after_gap-requires c =
+    let n = packets c.args.h _ c.carries_none.ensures c.if-carries_none.false in
+    let q = carries_packets c.args.h n in
+    let gap : c.args.gap ≡ 0 → ⊥ = omega arith in
+    record { fit = c.requires.fit q.0; fact = q.1; gap_value = (n, c.requires.channel_value.1, gap) }
 
 pub resume-requires : goal.resume-requires
 resume-requires c =
@@ -35,6 +32,7 @@ resume-requires c =
 
 pub returns : goal.returns
 returns c =
+    let zero : c.args.gap ≡ 0 = omega arith in
     did_as (steps_on source _ _ _ _ _ (packets c.args.h _ c.carries_none.ensures c.if-carries_none.false)
-    (sym c.requires.channel_value.1 ∙ c.if-gap-ne0.false))
+    (sym c.requires.channel_value.1 ∙ zero))
     c.resume.ensures

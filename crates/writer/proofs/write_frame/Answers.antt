@@ -1,11 +1,8 @@
 -- the field laid into its place, and the frame closed around it.
-use mathlib.Core.Path.{◌≡◌}
 use native.Mathlib.Omega.{arith}
 use Rattle.packet.proofs.ChainTurns.{distance_within}
-use Rattle.writing.proofs.FrameLaws.{fits_in, small, length_midst, none_over, some_over, wrote_by}
-use Rattle.writing.specs.Laying.{nothing_of}
+use Rattle.writing.proofs.FrameLaws.{fits_in, small, length_midst, wrote_by}
 use Rattle.writer.proofs.write_frame.Goals as goal
-use Rattle.writer.proofs.write_frame.Goals.{then-left_over-eq0, else-left_over-eq0}
 
 pub overflow_add-to : goal.overflow_add-to
 overflow_add-to c = let a = c.args in
@@ -23,15 +20,9 @@ pub pointer-start-requires : goal.pointer-start-requires
 pointer-start-requires c = let a = c.args in
     (c.requires.left_fits, omega (arith, c.requires.run_fits, distance_within a.run.now a.place.offset))
 
--- nothing was placed exactly if nothing was left over and the run is at its end
 pub returns : goal.returns
 returns c = let a = c.args in
     let l = c.lay-laid in
-    let nothing : c.if-left_over-eq0.nothing ≡ nothing_of a.run.now a.place.offset a.place.left_over =
-    elim c.if-left_over-eq0.branch [
-      | then-left_over-eq0 w ↦ none_over _ _ _ _ w.if-left_over-eq0.true w.nothing-is
-      | else-left_over-eq0 w ↦ some_over _ _ _ _ w.if-left_over-eq0.false w.nothing-is
-    ] in
-    wrote_by a.set a.channel a.place a.word a.run.now a.output.now c.requires c.data_size_for-d.result _ _ l.result _ _ c.if-left_over-eq0.nothing _ _
-    c.data_size_for-d.ensures l.ensures.goes l.ensures.field nothing c.distance-to_start.ensures c.pointer-start.ensures
+    wrote_by a.set a.channel a.place a.word a.run.now a.output.now c.requires c.data_size_for-d.result _ _ l.result _ _ c.nothing_placed-nothing.result _ _
+    c.data_size_for-d.ensures l.ensures.goes l.ensures.field c.nothing_placed-nothing.ensures c.distance-to_start.ensures c.pointer-start.ensures
     c.close.ensures.output c.next.ensures c.next-2.ensures
