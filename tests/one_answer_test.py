@@ -17,7 +17,7 @@ ROOT = Path(sys.argv[1] if len(sys.argv) > 1 else __file__).resolve()
 ROOT = ROOT if ROOT.is_dir() else ROOT.parent.parent
 
 # Libraries without operations of the paper: theorems alone, and parts of the program (docs/PROMISES.md says why).
-APART = {"demands", "read_back", "nothing_glued", "bench", "one_answer", "desk", "lines", "files", "keeping"}
+APART = {"demands", "read_back", "nothing_glued", "bench", "one_answer", "desk", "lines", "files", "input", "keeping"}
 # Decision 15: parts that ask something of their arguments.
 PARTS = {
     "octets": {"octet", "octet_across", "copy", "fill"},

@@ -44,6 +44,10 @@ CHOSEN = {
 }
 
 
+# Names of blocks in a proof, which stand deeper than any definition.
+ALSO = {"held-six", "and-true", "with-version", "plain-zero", "comes-plain", "tail-gone", "length-is", "eD", "dR"}
+
+
 def camel(name):
     parts = [p for p in re.split(r"[-_?]", name) if p]
     return "".join(p[0].upper() + p[1:] for p in parts)
@@ -71,6 +75,9 @@ def defined(text):
     for i, line in enumerate(lines):
         if not line.strip() or line.strip().startswith("--"):
             continue
+        if line.startswith(("use ", "pub use ")):
+            for name in re.findall(r" as ([a-z][A-Za-z0-9_'-]*)", line):
+                yield name, "alias"
         indent = len(line) - len(line.lstrip())
         blocks = [b for b in blocks if b < indent]
         if line.lstrip().startswith("module "):
@@ -150,6 +157,8 @@ def main():
             texts[path] = f.read()
         for name, kind in defined(texts[path]):
             kinds[name].add(kind)
+    for name in ALSO:
+        kinds[name].add("value")
     turned = {}
     for name, ks in kinds.items():
         new = camel(name) if "type" in ks else snake(name)

@@ -114,12 +114,12 @@ is_idle : (out : ℕ → List ℕ) (short store' : List ℕ) → map (unwanted s
 unfolding brought_in frame_of header_of layout.value_in layout.first_among layout.width_among layout.bits_from secondary_size data_size word_of bits_at number_at last_in all_arrived unwanted idle_of
 is_idle out short store' = refl
 
-module _ (store : List ℕ) (out : ℕ → List ℕ) (short store' : List ℕ) (length-is : length store ≡ 32768) (octets : Octets store)
+module _ (store : List ℕ) (out : ℕ → List ℕ) (short store' : List ℕ) (length_is : length store ≡ 32768) (octets : Octets store)
     (room : (i : ℕ) → 6144 ≤ length (out i)) (too_short : length short < 6144) (not_whole : length store' ≡ 32768 → ⊥) where
   is_allowed : Allowed source most ours 3 fresh_record store false 0 frames (history out short store')
   unfolding below open_of open_table frame_table frame_of first_cause row1 row5 row6 row7 row8 row9 row10 row11 row12 fits_of header_of layout.value_in layout.first_among layout.width_among layout.bits_from secondary_size data_size word_of bits_at number_at store_fits
   is_allowed =
-      let k₀ : Fine source most fresh_record store = record { eight = refl; store_whole = length-is; octets = octets; follows = fresh_follows source most store } in
+      let k₀ : Fine source most fresh_record store = record { eight = refl; store_whole = length_is; octets = octets; follows = fresh_follows source most store } in
       let k₁ = arrived frame1 fresh_record store (out 1) refl refl k₀ (room 1) in
       let e = elsewhere_harmless _ _ (out 2) k₁ (room 2) in
       let k₂ = (others_keep source_roomy 3 ours _ _ (out 2) elsewhere (omega arith) k₁ (octets_by elsewhere refl) e).fine in
@@ -152,7 +152,7 @@ module _ (store : List ℕ) (out : ℕ → List ℕ) (short store' : List ℕ) (
 
   delivers : Delivers source most ours earlier laid_packets fresh_record store [] frames (history out short store')
   delivers =
-      demand3_fresh ours 3 254 earlier laid_packets frames store (history out short store') all_whole sends_all (omega arith) length-is octets
+      demand3_fresh ours 3 254 earlier laid_packets frames store (history out short store') all_whole sends_all (omega arith) length_is octets
       is_allowed
 
   is_handed : outputs_of ours fresh_record store frames (history out short store')

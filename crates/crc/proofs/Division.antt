@@ -36,9 +36,9 @@ module _ (d : ℕ) (R : List ℕ) (l : length R ≡ 15) where
   unfolding next tail scale
   length_next = length_plus (R ++ (0 ∷ [])) (tail d) (le_of_eq (sym as_many)) ∙ as_many
 
-  module _ (dR : Digits R) where
+  module _ (d_r : Digits R) where
     digits_shifted : Digits (R ++ (0 ∷ []))
-    digits_shifted = digits_append R (0 ∷ []) dR (omega arith)
+    digits_shifted = digits_append R (0 ∷ []) d_r (omega arith)
 
     digits_next : Digits (next d R)
     unfolding next tail
@@ -49,7 +49,7 @@ module _ (d : ℕ) (R : List ℕ) (l : length R ≡ 15) where
     number_next hd =
         number_plus (R ++ (0 ∷ [])) (tail d) as_many digits_shifted (digits_scale d (drop 1 G))
         ∙ ap₂ bit_xor (number_append R (0 ∷ []) ∙ add-zero (number R * 2)) (number_tail d hd)
-        ∙ sym (turn d (number R) hd (rw l at (number_lt R dR)))
+        ∙ sym (turn d (number R) hd (rw l at (number_lt R d_r)))
 
 add_top : (b r x : ℕ) → b < 2 → r < 2 → x < 2 ^ 15 → bit_xor (r * 2 ^ 15 + x) (b * 2 ^ 15) ≡ (b + r) % 2 * 2 ^ 15 + x
 add_top b r x hb hr hx =
@@ -58,9 +58,9 @@ add_top b r x hb hr hx =
 
 number_step : (b r : ℕ) (R : List ℕ) → length R ≡ 15 → b < 2 → Digits (r ∷ R) → number (next ((b + r) % 2) R) ≡ step (number (r ∷ R)) b
 unfolding step number
-number_step b r R l hb dR =
-    number_next ((b + r) % 2) R l dR.1 (mod-lt (b + r) (pow_pos 1))
-    ∙ ap times_x (rw l (sym (add_top b r (number R) hb dR.0 (rw l at (number_lt R dR.1)))))
+number_step b r R l hb d_r =
+    number_next ((b + r) % 2) R l d_r.1 (mod-lt (b + r) (pow_pos 1))
+    ∙ ap times_x (rw l (sym (add_top b r (number R) hb d_r.0 (rw l at (number_lt R d_r.1)))))
 
 -- a digit of the quotient
 left_step : (b r : ℕ) (c R : List ℕ) → length R ≡ 15
@@ -77,14 +77,14 @@ left_step b r c R l =
 pub division : (c R : List ℕ) → Digits c → Digits R → length R ≡ 16
     → number (modulo (length c) (plus (shifted c) (R ++ replicate (length c) 0))) ≡ over c (number R)
 unfolding over modulo number
-division [] R dc dR l = rw append-nil (number_plus (shifted []) R (sym l) (omega arith) dR)
-division (b ∷ c) [] dc dR l = absurd (omega arith)
-division (b ∷ c) (r ∷ R) dc dR l =
+division [] R dc d_r l = rw append-nil (number_plus (shifted []) R (sym l) (omega arith) d_r)
+division (b ∷ c) [] dc d_r l = absurd (omega arith)
+division (b ∷ c) (r ∷ R) dc d_r l =
     let d = (b + r) % 2 in
     let l : length R ≡ 15 = omega arith in
     ap number (left_step b r c R l)
-    ∙ division c (next d R) dc.1 (digits_next d R l dR.1) (length_next d R l)
-    ∙ ap (over c) (number_step b r R l dc.0 dR)
+    ∙ division c (next d R) dc.1 (digits_next d R l d_r.1) (length_next d R l)
+    ∙ ap (over c) (number_step b r R l dc.0 d_r)
 
 -- the dividend a ∷ p from what is left after the digit a
 one_digit : (a : ℕ) (p q t : List ℕ) → Digits (a ∷ p) → 16 ≤ length p → plus p (tail a) ≡ plus (product q G) t

@@ -18,7 +18,7 @@ use Rattle.demands.proofs.Due.{late_all}
 use Rattle.demands.proofs.Field.{Next}
 use Rattle.demands.proofs.Field.Next.{still, ends, opens}
 use Rattle.demands.proofs.Frame.{Stand, Good, only_good}
-use Rattle.demands.proofs.Frame.Stand.{hunting, between as between-packets, gathers, skips}
+use Rattle.demands.proofs.Frame.Stand.{hunting, between as between_packets, gathers, skips}
 use Rattle.demands.proofs.Spot.{Spot, Free, Inside, Lost, free_spot, inside_spot, spot_whole, still_inside, after_ends, after_opens, lost_full, lost_still}
 use Rattle.demands.proofs.Spot.Lost.{lost_free, lost_inside}
 
@@ -41,7 +41,7 @@ module _ {tail : List ℕ} {ps : List (List ℕ)} {came : List Bool} {q : List �
 
   pub any_stand : {F : Family} {limit : ℕ} {σ : State} {part : List ℕ} → Stand F limit σ part tail ps came q behind → Any tail ps came q behind
   any_stand (hunting e l) = any_lost l
-  any_stand (between-packets e z s) = any_free s
+  any_stand (between_packets e z s) = any_free s
   any_stand (gathers begun e h o s) = any_inside begun true s
   any_stand (skips begun b e o s) = any_inside begun b s
 

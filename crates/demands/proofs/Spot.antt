@@ -196,11 +196,11 @@ module _ {tail : List ℕ} {ps : List (List ℕ)} {came : List Bool} {q : List �
           ∙ ap all_arrived (take-append-add s.mid (replicate D true) (length q))
           ∙ arrived_append s.mid (take (length q) (replicate D true))
           ∙ ap₂ (λ (m n : Bool). m && n) s.arrived (ap all_arrived (take_same (length q) D true h) ∙ all_came (length q))
-          ∙ and-true x
+          ∙ and_true x
         where
-          and-true : (y : Bool) → (y && true) ≡ y
-          and-true true = refl
-          and-true false = refl
+          and_true : (y : Bool) → (y && true) ≡ y
+          and_true true = refl
+          and_true false = refl
 
       inside_place : length s.pre + length (begun ++ q) ≡ length came + length q
       inside_place = omega (arith, came_length, length-append begun q, s.as_many)

@@ -10,7 +10,7 @@ use desk::{Saved, more};
 use lines::{blame, fail, say, say_number};
 pub use opening::open;
 use opening::{make_new, remove};
-pub use settling::{finished, read_full};
+pub use settling::finished;
 use std::io;
 use std::io::Write;
 use std::rt::Files;

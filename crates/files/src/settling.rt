@@ -1,30 +1,14 @@
 // A channel's file at the end: all of it handed to the system, and read back.
-ghost use Rattle.std.specs.Prelude.{◌≤◌, length};
-
 use crate::opening::open;
 use crate::within;
 use desk::Saved;
+use input::read_full;
 use lines::{blame, hex, text, value};
 use std::fs::OpenFile;
-use std::io::Read;
 use std::rt::Files;
 
 // Files of fewer octets than this are looked at whole.
 const ROOM: usize = 65536;
-
-// Reads until the room is full, the input ends or a read fails: how many octets came.
-pub fn read_full(input: &mut impl Read, room: &mut [u8]) -> usize
-    ensures { result ≤ length room.new }
-{
-    let mut n = 0;
-    while n < room.len() {
-        match input.read(&mut room[n..]) {
-            Ok(0) | Err(_) => return n,
-            Ok(more) => n += more,
-        }
-    }
-    n
-}
 
 // The octets read back, against what was written.
 fn compared(rt: &impl Print, octets: &[u8], s: Saved) -> bool {

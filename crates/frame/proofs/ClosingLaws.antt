@@ -10,7 +10,7 @@ use Rattle.octets.specs.Octets.{Octets}
 use Rattle.octets.specs.Pick.{pick}
 use Rattle.octets.proofs.Laws.{pick_le}
 use Rattle.octets.proofs.Layouts.{laid_out_octets, laid_out_length}
-use Rattle.octets.proofs.OctetLaws.{no_octets, octets_append as octets-both}
+use Rattle.octets.proofs.OctetLaws.{no_octets, octets_append as octets_both}
 use Rattle.octets.proofs.Runs.{laid_behind, laid_around, laid_last, length_octets, octets_append, octets_lt}
 use Rattle.frame.specs.declared.closing.ControlWord.{ControlWord}
 use Rattle.frame.specs.declared.closing.ControlWord.TheVariants.{Absent, Present}
@@ -111,8 +111,8 @@ unfolding frame_around with_check header_octets
 around_octets u channel m k w p field o =
     let h = header_octets u channel m k (flagged_by w) p in
     let f = h ++ field ++ word_octets w in
-    octets-both f _
-    (octets-both (h ++ field) (word_octets w) (octets-both h field (laid_out_octets frame_header (header_value u channel m k (flagged_by w) p)) o) (word_octets_lem w))
+    octets_both f _
+    (octets_both (h ++ field) (word_octets w) (octets_both h field (laid_out_octets frame_header (header_value u channel m k (flagged_by w) p)) o) (word_octets_lem w))
     (check_octets u.error_control (syndrome_of f))
 
 -- the parts of a frame fill it

@@ -50,11 +50,11 @@ module _ (u : SetUp) (f : List ℕ) (h : Header) (e : h ≡ header_of f) (a : ro
   right_header b c = rw (a, ← e, eq-eqb h.spacecraft u.spacecraft b, c)
 
 -- rows 10 to 12
-module _ (u : SetUp) (f : List ℕ) (h : Header) (s D : ℕ) (e : h ≡ header_of f) (es : s ≡ secondary_size h f) (eD : D ≡ data_size u s h.flagged) where
+module _ (u : SetUp) (f : List ℕ) (h : Header) (s D : ℕ) (e : h ≡ header_of f) (es : s ≡ secondary_size h f) (e_d : D ≡ data_size u s h.flagged) where
   from_six : open_from 6 u f ≡ first_cause (row NoData (row10 D) ∷ row OrderOrSegment (row11 h) ∷ row PointerPlace (row12 h D) ∷ [])
       Refused (Accepted (record { header = h; word = word_of h f (data_place s + D); place = data_place s; size = D }))
   unfolding open_from open_table frame_table frame_of
-  from_six = rw (eD, es, e)
+  from_six = rw (e_d, es, e)
 
   pub no_data : D < 1 → Refused NoData ≡ open_from 6 u f
   unfolding first_cause row10

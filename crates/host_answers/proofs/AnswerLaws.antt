@@ -14,7 +14,7 @@ use Rattle.reading.specs.declared.Report.{Report}
 use Rattle.host_answers.specs.Answer.{Lays, read_number, saved_by}
 use Rattle.host.specs.Answer.{laid_words}
 use Rattle.host.proofs.LayLaws.{laid_same}
-use Rattle.writing.specs.Answers.{answer_number, values_of as writeValues}
+use Rattle.writing.specs.Answers.{answer_number, values_of as write_values}
 use Rattle.writing.specs.declared.Answer.{Answer as Written}
 use Rattle.writing.specs.declared.Place.{Place}
 
@@ -46,6 +46,6 @@ module _ (given : Answer) (after : Record) (words words' old l : List ℕ) (n : 
 
 -- the five words of a writing
 pub written_told : (given : Written) (next : Place) (old vs l : List ℕ) (n : ℕ) → n ≡ answer_number given
-    → vs ≡ n ∷ next.offset ∷ next.left_over ∷ next.master.0 ∷ next.count.0 ∷ [] → l ≡ laid_words old vs → l ≡ laid_words old (writeValues given next)
-unfolding writeValues
+    → vs ≡ n ∷ next.offset ∷ next.left_over ∷ next.master.0 ∷ next.count.0 ∷ [] → l ≡ laid_words old vs → l ≡ laid_words old (write_values given next)
+unfolding write_values
 written_told given next old vs l n e v k = rw (← e, ← v) k

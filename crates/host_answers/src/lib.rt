@@ -4,7 +4,7 @@
 ghost use Rattle.std.specs.Prelude.{◌≡◌, [], ◌∷◌, ◌^◌, ◌<◌, replicate};
 ghost use Rattle.reading.specs.Answers.{kind_number, values_of};
 ghost use Rattle.reading.specs.declared.Answer.TheVariants.{Accepted};
-ghost use Rattle.writing.specs.Answers.{answer_number, values_of as writeValues};
+ghost use Rattle.writing.specs.Answers.{answer_number, values_of as write_values};
 ghost use Rattle.host_answers.specs.Answer.{Lays, ReportFits, read_number, saved_by};
 ghost use Rattle.host.specs.Answer.{laid_words};
 
@@ -124,7 +124,7 @@ fn write_number(a: writing::Answer) -> u32
 pub fn answer_write(w: Written, answer: &mut [u32]) -> u32
     requires { (w.next.offset < 2 ^ 32) × (w.next.left_over < 2 ^ 32) }
     ensures number { result ≡ answer_number w.answer }
-    ensures answer { answer.new ≡ laid_words answer.old (writeValues w.answer w.next) }
+    ensures answer { answer.new ≡ laid_words answer.old (write_values w.answer w.next) }
 {
     let given = w.answer;
     let next = w.next;

@@ -1,7 +1,7 @@
 -- What is proved of opening and closing over the boundary besides the functions' contracts. The proofs are in proofs/Laws.antt, under these names in lower case.
 use Rattle.std.specs.Prelude.{◌≡◌, List, [], ◌∷◌, ◌↔◌, ℕ, ◌^◌, ◌<◌, eqb, length, get_or, take, drop, replicate}
 use Rattle.octets.specs.Pick.{pick}
-use Rattle.frame.specs.Answers.{number_of as openRefusal, values_of as openValues, close_number_of}
+use Rattle.frame.specs.Answers.{number_of as open_refusal, values_of as open_values, close_number_of}
 use Rattle.frame.specs.Closing.{close_size, close_table, field_in}
 use Rattle.frame.specs.Opening.{frame_of, open_table}
 use Rattle.frame.specs.Theorems.{Points}
@@ -19,17 +19,17 @@ use Rattle.host_frame.specs.Calls.{CloseCall, OpenCall}
 
 -- an opening's answer is 14 words, and the number that is returned is the first
 abbrev pub OpenWords : Type 0
-OpenWords = (o : Opened) → (length (openValues o) ≡ 14) × (get_or (openValues o) 0 0 ≡ open_number o)
+OpenWords = (o : Opened) → (length (open_values o) ≡ 14) × (get_or (open_values o) 0 0 ≡ open_number o)
 
 -- opening: a number is given exactly when its cause holds and no earlier one does, and 0 exactly when no cause holds
 abbrev pub OpenReturns : Type 0
 OpenReturns = (u : SetUp) (f answer : List ℕ) (r : ℕ) (answer' : List ℕ) → OpenCall u f answer r answer'
-    → ((x : OpenRefusal) → r ≡ openRefusal x ↔ First (open_table u f) x) × (r ≡ 0 ↔ None (open_table u f))
+    → ((x : OpenRefusal) → r ≡ open_refusal x ↔ First (open_table u f) x) × (r ≡ 0 ↔ None (open_table u f))
 
 -- then the words are those of what the frame gives
 abbrev pub OpenAccepted : Type 0
 OpenAccepted = (u : SetUp) (f answer : List ℕ) (r : ℕ) (answer' : List ℕ) → OpenCall u f answer r answer' → r ≡ 0
-    → answer' ≡ laid_words answer (openValues (Opened.Accepted (frame_of u f)))
+    → answer' ≡ laid_words answer (open_values (Opened.Accepted (frame_of u f)))
 
 -- on a refusal all but the number are zero
 abbrev pub OpenRefused : Type 0

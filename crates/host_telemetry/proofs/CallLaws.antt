@@ -11,7 +11,7 @@ use Rattle.reading.specs.Answers.{values_of}
 use Rattle.reading.specs.Reading.{Read}
 use Rattle.octets.specs.Octets.{Octets}
 use Rattle.reading.specs.declared.Answer.{Answer}
-use Rattle.writing.specs.Answers.{answer_number, values_of as writeValues}
+use Rattle.writing.specs.Answers.{answer_number, values_of as write_values}
 use Rattle.writing.specs.Writing.{Wrote}
 use Rattle.writing.specs.declared.Answer.{Answer as Written}
 use Rattle.writing.specs.declared.Place.{Place}
@@ -45,7 +45,7 @@ module _ (u set : SetUp) (channel : ℕ) (p : Place) (w control : ControlWord) (
   pub place_fits : p.offset < 2 ^ 32 → p.left_over < 2 ^ 32 → (next.offset < 2 ^ 32) × (next.left_over < 2 ^ 32)
   place_fits a b = rw wrote.goes_on (next_fits u channel p w run out a b)
 
-  pub write_call : (answer answer' : List ℕ) (n : ℕ) → (n ≡ answer_number given) × (answer' ≡ laid_words answer (writeValues given next))
+  pub write_call : (answer answer' : List ℕ) (n : ℕ) → (n ≡ answer_number given) × (answer' ≡ laid_words answer (write_values given next))
       → WriteCall u channel p w run out answer n out' answer'
   write_call answer answer' n d =
       let t = rw (wrote.answers, wrote.goes_on) at d in

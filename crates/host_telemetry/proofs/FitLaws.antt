@@ -36,7 +36,7 @@ use Rattle.reading.specs.declared.Report.{Report}
 use Rattle.walk.specs.declared.walking.End.{End}
 use Rattle.writing.proofs.Laws.{goes_on, refused_untouched, written_exactly}
 use Rattle.writing.proofs.WritingSteps.{passing}
-use Rattle.writing.specs.Writing.{answer_of as writeAnswer, next_of, next_place, write_table}
+use Rattle.writing.specs.Writing.{answer_of as write_answer, next_of, next_place, write_table}
 use Rattle.writing.specs.declared.Answer.{Answer as Written}
 use Rattle.writing.specs.declared.Place.{Place}
 use Rattle.host_answers.specs.Answer.{Lays, ReportFits}
@@ -158,9 +158,9 @@ PlaceFits p = (p.offset < 2 ^ 32) × (p.left_over < 2 ^ 32)
 pub next_fits : (u : SetUp) (channel : ℕ) (p : Place) (w : ControlWord) (run out : List ℕ) → p.offset < 2 ^ 32 → p.left_over < 2 ^ 32
     → PlaceFits (next_of u channel p w run out)
 unfolding next_of
-next_fits u channel p w run out h k = go (writeAnswer u channel p run out) refl
+next_fits u channel p w run out h k = go (write_answer u channel p run out) refl
   where
-    go : (a : Written) → writeAnswer u channel p run out ≡ a → PlaceFits (next_of u channel p w run out)
+    go : (a : Written) → write_answer u channel p run out ≡ a → PlaceFits (next_of u channel p w run out)
     go (Written.Refused r) e = rw (refused_untouched u channel p w run out r e).0 (h, k)
     go Written.Frame e =
         let none = (written_exactly u channel p run out).0 e in

@@ -25,16 +25,16 @@ use Rattle.channel.specs.declared.state.Record.{Record}
 use Rattle.reading.proofs.AfterLaws.{channels_kept}
 use Rattle.reading.proofs.Laws.{accepted_keeps, others_apart, refused_untouched}
 use Rattle.reading.proofs.ReadLaws.{at_record, found_none, leaves, opened, ready, refuses}
-use Rattle.reading.specs.Answers.{number_of, values_of as readValues}
-use Rattle.reading.specs.Reading.{answer_of as readAnswer, done_by, record_after, record_of}
+use Rattle.reading.specs.Answers.{number_of, values_of as read_values}
+use Rattle.reading.specs.Reading.{answer_of as read_answer, done_by, record_after, record_of}
 use Rattle.reading.specs.declared.Answer.{Answer as ReadAnswer}
 use Rattle.reading.specs.declared.Answer.TheVariants.{Refused, Accepted}
 use Rattle.reading.specs.declared.Refusal.{Refusal}
 use Rattle.reading.specs.declared.Refusal.TheVariants.{OfFrame, StoreLength, OutputLength, BrokenRecord}
 use Rattle.reading.specs.declared.Report.{Report}
-use Rattle.writing.proofs.Laws.{refused_untouched as write-untouched}
-use Rattle.writing.specs.Answers.{values_of as writeValues}
-use Rattle.writing.specs.Writing.{answer_of as writeAnswer}
+use Rattle.writing.proofs.Laws.{refused_untouched as write_untouched}
+use Rattle.writing.specs.Answers.{values_of as write_values}
+use Rattle.writing.specs.Writing.{answer_of as write_answer}
 use Rattle.writing.specs.declared.Answer.{Answer as WriteAnswer}
 use Rattle.writing.specs.declared.Place.{Place}
 use Rattle.host.specs.Answer.{laid_words}
@@ -51,7 +51,7 @@ pub odd_refused : OddRefused
 unfolding row1
 odd_refused u words store out f a b c o = go (record_follows source most store (unpacked words)) refl
   where
-    go : (t : Bool) → record_follows source most store (unpacked words) ≡ t → readAnswer u (unpacked words) store out f ≡ Refused BrokenRecord
+    go : (t : Bool) → record_follows source most store (unpacked words) ≡ t → read_answer u (unpacked words) store out f ≡ Refused BrokenRecord
     go true e = absurd (odd_breaks words store e o)
     go false e =
         sym (refuses source most u (unpacked words) store out f BrokenRecord (record { answer = Refused BrokenRecord; after = unpacked words })
@@ -75,7 +75,7 @@ set_small cs i v c k l h = go (eqb v i) refl
     go true e = let q = eqb-true v i e in rw (q, get_or-set_same cs i c fresh_channel (rw q at l)) k
     go false e = rw (get_or-set_other cs i v c fresh_channel (eqb-false v i e)) h
 
-module _ (u : SetUp) (rec : Record) (store out f : List ℕ) (a : Report) (e : readAnswer u rec store out f ≡ Accepted a) where
+module _ (u : SetUp) (rec : Record) (store out f : List ℕ) (a : Report) (e : read_answer u rec store out f ≡ Accepted a) where
   left_as : record_after (frame_of u f) rec (done_by source most (frame_of u f) rec store f) ≡ record_of u rec store out f
   left_as = (leaves source most u rec store out f (found_none source most u rec store out f a e)).record_left
 
@@ -93,9 +93,9 @@ module _ (u : SetUp) (rec : Record) (store out f : List ℕ) (a : Report) (e : r
   left_small n h v l = rw (← left_as) (set_small rec.channels (frame_of u f).header.channel v _ frame_count (omega arith) (h v l))
 
 pub saved_unpacks : SavedUnpacks
-saved_unpacks u words store out f answer r words' store' out' answer' c = go (readAnswer u (unpacked words) store out f) refl
+saved_unpacks u words store out f answer r words' store' out' answer' c = go (read_answer u (unpacked words) store out f) refl
   where
-    go : (a : ReadAnswer) → readAnswer u (unpacked words) store out f ≡ a → unpacked words' ≡ record_of u (unpacked words) store out f
+    go : (a : ReadAnswer) → read_answer u (unpacked words) store out f ≡ a → unpacked words' ≡ record_of u (unpacked words) store out f
     go (Refused x) e =
         ap unpacked (rw e at c.record_left) ∙ sym (refused_untouched source most u (unpacked words) store out f x e).same_record
     go (Accepted a) e =
@@ -112,9 +112,9 @@ refused_not OutputLength e = omega arith
 refused_not BrokenRecord e = omega arith
 
 pub saved_follows : SavedFollows
-saved_follows u words store out f answer r words' store' out' answer' os of c z = go (readAnswer u (unpacked words) store out f) refl
+saved_follows u words store out f answer r words' store' out' answer' os of c z = go (read_answer u (unpacked words) store out f) refl
   where
-    go : (a : ReadAnswer) → readAnswer u (unpacked words) store out f ≡ a → record_follows source most store' (unpacked words') ≡ true
+    go : (a : ReadAnswer) → read_answer u (unpacked words) store out f ≡ a → record_follows source most store' (unpacked words') ≡ true
     go (Refused x) e = absurd (refused_not x (sym (rw e at c.number) ∙ z))
     go (Accepted a) e =
         rw (saved_unpacks u words store out f answer r words' store' out' answer' c, c.store_left)
@@ -134,40 +134,40 @@ others_keep u words store out f answer r words' store' out' answer' a w c e h n 
     ∙ words_at words store follows w h
 
 pub read_refused : ReadRefused
-read_refused u words store out f answer r words' store' out' answer' c n = go (readAnswer u (unpacked words) store out f) refl
+read_refused u words store out f answer r words' store' out' answer' c n = go (read_answer u (unpacked words) store out f) refl
   where
-    go : (a : ReadAnswer) → readAnswer u (unpacked words) store out f ≡ a → (words' ≡ words) × (store' ≡ store) × (out' ≡ out)
+    go : (a : ReadAnswer) → read_answer u (unpacked words) store out f ≡ a → (words' ≡ words) × (store' ≡ store) × (out' ≡ out)
     go (Refused x) e =
         let t = refused_untouched source most u (unpacked words) store out f x e in
         (rw e at c.record_left, c.store_left ∙ t.same_store, c.output_left ∙ t.same_output)
     go (Accepted a) e = absurd (n (rw e at c.number))
 
 pub write_refused : WriteRefused
-write_refused u channel p w run out answer r out' answer' c n = go (writeAnswer u channel p run out) refl
+write_refused u channel p w run out answer r out' answer' c n = go (write_answer u channel p run out) refl
   where
-    go : (a : WriteAnswer) → writeAnswer u channel p run out ≡ a
-        → (out' ≡ out) × (answer' ≡ laid_words answer (writeValues (writeAnswer u channel p run out) p))
+    go : (a : WriteAnswer) → write_answer u channel p run out ≡ a
+        → (out' ≡ out) × (answer' ≡ laid_words answer (write_values (write_answer u channel p run out) p))
     go (WriteAnswer.Refused x) e =
-        let t = write-untouched u channel p w run out x e in
-        (c.output_left ∙ t.1, c.answer_left ∙ ap (λ (q : Place). laid_words answer (writeValues (writeAnswer u channel p run out) q)) t.0)
+        let t = write_untouched u channel p w run out x e in
+        (c.output_left ∙ t.1, c.answer_left ∙ ap (λ (q : Place). laid_words answer (write_values (write_answer u channel p run out) q)) t.0)
     go WriteAnswer.Frame e = absurd (n (rw e at c.number))
 
-read_size : (a : ReadAnswer) → length (readValues a) ≡ 20
-unfolding readValues
+read_size : (a : ReadAnswer) → length (read_values a) ≡ 20
+unfolding read_values
 read_size (Refused r) = refl
 read_size (Accepted a) = refl
 
 pub answer_sizes : AnswerSizes
-unfolding writeValues
+unfolding write_values
 answer_sizes = (read_size, λ a p. refl, λ cs. refl)
 
-read_first : (a : ReadAnswer) → get_or (readValues a) 0 0 ≡ read_number a
-unfolding readValues
+read_first : (a : ReadAnswer) → get_or (read_values a) 0 0 ≡ read_number a
+unfolding read_values
 read_first (Refused r) = refl
 read_first (Accepted a) = refl
 
 pub number_first : NumberFirst
-unfolding writeValues
+unfolding write_values
 number_first = (read_first, λ a p. refl, λ cs. refl)
 
 pub busy_packed : BusyPacked

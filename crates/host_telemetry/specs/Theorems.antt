@@ -9,14 +9,14 @@ use Rattle.channel.specs.Busy.{mask_of}
 use Rattle.channel.specs.Rules.{record_follows}
 use Rattle.channel.specs.declared.state.Channel.{Channel}
 use Rattle.channel.specs.declared.state.Record.{Record}
-use Rattle.reading.specs.Answers.{values_of as readValues}
-use Rattle.reading.specs.Reading.{answer_of as readAnswer, record_of, row2, row3}
+use Rattle.reading.specs.Answers.{values_of as read_values}
+use Rattle.reading.specs.Reading.{answer_of as read_answer, record_of, row2, row3}
 use Rattle.reading.specs.declared.Answer.{Answer as ReadAnswer}
 use Rattle.reading.specs.declared.Answer.TheVariants.{Refused, Accepted}
 use Rattle.reading.specs.declared.Refusal.TheVariants.{BrokenRecord}
 use Rattle.reading.specs.declared.Report.{Report}
-use Rattle.writing.specs.Answers.{answer_number, values_of as writeValues}
-use Rattle.writing.specs.Writing.{answer_of as writeAnswer}
+use Rattle.writing.specs.Answers.{answer_number, values_of as write_values}
+use Rattle.writing.specs.Writing.{answer_of as write_answer}
 use Rattle.writing.specs.declared.Answer.{Answer as WriteAnswer}
 use Rattle.writing.specs.declared.Place.{Place}
 use Rattle.host.specs.Answer.{laid_words}
@@ -29,7 +29,7 @@ use Rattle.host_words.specs.Theorems.{Odd}
 -- they are refused by 4, after 1, 2 and 3
 abbrev pub OddRefused : Type 0
 OddRefused = (u : SetUp) (words store out f : List ℕ) → row1 u ≡ false → row2 most store ≡ false → row3 most out ≡ false → Odd words
-    → readAnswer u (unpacked words) store out f ≡ Refused BrokenRecord
+    → read_answer u (unpacked words) store out f ≡ Refused BrokenRecord
 
 -- the words that a reading leaves are those of the record that the reader leaves, so calls over words go on as calls over records do
 abbrev pub SavedUnpacks : Type 0
@@ -45,7 +45,7 @@ SavedFollows = (u : SetUp) (words store out f answer : List ℕ) (r : ℕ) (word
 abbrev pub OthersKeep : Type 0
 OthersKeep = (u : SetUp) (words store out f answer : List ℕ) (r : ℕ) (words' store' out' answer' : List ℕ) (a : Report) (w : ℕ)
     → ReadCall u words store out f answer r words' store' out' answer'
-    → readAnswer u (unpacked words) store out f ≡ Accepted a → w < 8 → (w ≡ a.header.channel → ⊥)
+    → read_answer u (unpacked words) store out f ≡ Accepted a → w < 8 → (w ≡ a.header.channel → ⊥)
     → take 4 (drop (4 * w) words') ≡ take 4 (drop (4 * w) words)
 
 -- on a refusal nothing but `answer` is written
@@ -56,16 +56,16 @@ ReadRefused = (u : SetUp) (words store out f answer : List ℕ) (r : ℕ) (words
 abbrev pub WriteRefused : Type 0
 WriteRefused = (u : SetUp) (channel : ℕ) (p : Place) (w : ControlWord) (run out answer : List ℕ) (r : ℕ) (out' answer' : List ℕ)
     → WriteCall u channel p w run out answer r out' answer' → (r ≡ 0 → ⊥)
-    → (out' ≡ out) × (answer' ≡ laid_words answer (writeValues (writeAnswer u channel p run out) p))
+    → (out' ≡ out) × (answer' ≡ laid_words answer (write_values (write_answer u channel p run out) p))
 
 -- how many words an answer is
 abbrev pub AnswerSizes : Type 0
-AnswerSizes = ((a : ReadAnswer) → length (readValues a) ≡ 20) × ((a : WriteAnswer) (p : Place) → length (writeValues a p) ≡ 5)
+AnswerSizes = ((a : ReadAnswer) → length (read_values a) ≡ 20) × ((a : WriteAnswer) (p : Place) → length (write_values a p) ≡ 5)
     × ((cs : List Channel) → length (busy_values cs) ≡ 3)
 
 -- and the number that is returned is the first
 abbrev pub NumberFirst : Type 0
-NumberFirst = ((a : ReadAnswer) → get_or (readValues a) 0 0 ≡ read_number a) × ((a : WriteAnswer) (p : Place) → get_or (writeValues a p) 0 0 ≡ answer_number a)
+NumberFirst = ((a : ReadAnswer) → get_or (read_values a) 0 0 ≡ read_number a) × ((a : WriteAnswer) (p : Place) → get_or (write_values a p) 0 0 ≡ answer_number a)
     × ((cs : List Channel) → get_or (busy_values cs) 0 0 ≡ mask_of cs)
 
 -- the busy mask's answer for a record that was packed is the record's mask, count and lowest channel

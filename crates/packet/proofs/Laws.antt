@@ -214,11 +214,11 @@ source_lawful =
 pub first_tells : FirstTells
 first_tells p q e h = go (packet_case p)
   where
-    with-version : version_of (p ++ q) ≡ 0 → Case (p ++ q) → size_of p ≡ Foreign
-    with-version v (none z) = wait_foreign ((size_in_words (p ++ q)).none z) e
-    with-version v (other z x) = absurd (x v)
-    with-version v (few z x l) = wait_foreign ((size_in_words (p ++ q)).few z x l) e
-    with-version v (six z x) = foreign_total e ((size_in_words (p ++ q)).six z x)
+    with_version : version_of (p ++ q) ≡ 0 → Case (p ++ q) → size_of p ≡ Foreign
+    with_version v (none z) = wait_foreign ((size_in_words (p ++ q)).none z) e
+    with_version v (other z x) = absurd (x v)
+    with_version v (few z x l) = wait_foreign ((size_in_words (p ++ q)).few z x l) e
+    with_version v (six z x) = foreign_total e ((size_in_words (p ++ q)).six z x)
 
     w : InWords p
     w = size_in_words p
@@ -226,7 +226,7 @@ first_tells p q e h = go (packet_case p)
     go : Case p → size_of p ≡ Foreign
     go (none z) = absurd (omega arith)
     go (other z v) = w.other z v
-    go (few z v l) = with-version (version_more p q z ∙ v) (packet_case (p ++ q))
+    go (few z v l) = with_version (version_more p q z ∙ v) (packet_case (p ++ q))
     go (six z v) = foreign_total e (total_stays p q (total_of p) (w.six z v))
 
 pub six_tell : SixTell

@@ -196,8 +196,8 @@ module _ (L : List Mark) (o l D a b n over : ℕ) (G : List Mark) (few : l ≤ 6
       Goal = inner (drop D (drop (7 - l) short_idle)) ++ (drop (o + (D - l)) L ++ G)
           ≡ inner (drop (7 - (l - a + over)) short_idle) ++ drop (o + b) L
 
-      tail-gone : l < D → drop D (drop (7 - l) short_idle) ≡ []
-      tail-gone h = drop_of_length-le (drop (7 - l) short_idle) {i = D} (omega (arith, length_tail l few))
+      tail_gone : l < D → drop D (drop (7 - l) short_idle) ≡ []
+      tail_gone h = drop_of_length-le (drop (7 - l) short_idle) {i = D} (omega (arith, length_tail l few))
 
       go : Dec (l < D) → Dec (D - l < length L - o) → Goal
       go (no h) d =
@@ -207,13 +207,13 @@ module _ (L : List Mark) (o l D a b n over : ℕ) (G : List Mark) (few : l ≤ 6
       go (yes h) (yes i) =
           let f = run_fills D l (length L - o) a b n ea eb en h i in
           let m : l - a + over ≡ 0 = over_alone l a over f.0 ∙ z f.2 in
-          rw (none_behind f.2, append-nil (drop (o + (D - l)) L), tail-gone h, f.1, m)
+          rw (none_behind f.2, append-nil (drop (o + (D - l)) L), tail_gone h, f.1, m)
       go (yes h) (no i) =
           let j : length L - o ≤ D - l = omega arith in
           let f = both_fit D l (length L - o) a b n ea eb en h j in
           let x : drop (o + (D - l)) L ≡ [] = drop_of_length-le L {i = o + (D - l)} (past (length L) o (D - l) j) in
           let y : drop (o + b) L ≡ [] = drop_of_length-le L {i = o + b} (past (length L) o b (at_least (length L - o) b f.1)) in
-          rw (tail-gone h, x, y, over_alone l a over f.0, append-nil (inner (drop (7 - over) short_idle))) g
+          rw (tail_gone h, x, y, over_alone l a over f.0, append-nil (inner (drop (7 - over) short_idle))) g
 
 module _ (ps : List (List ℕ)) (offset left D : ℕ) (few : left ≤ 6) (inside : offset ≤ length (end_to_end ps))
     (some : length (placed_part D (end_to_end ps) offset left) ≡ 0 → ⊥) where

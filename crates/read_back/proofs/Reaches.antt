@@ -79,13 +79,13 @@ module _ {D k o l a b n over o' l' : ℕ} (t : Turn D k o l a b n over o' l') wh
       let e = t.next_offset in
       let g = t.some in
       let i : a ≤ l = omega (arith, t.of_left) in
-      comes-plain k o l a b o' l' w e (d ∙ ap (λ (x : ℕ). l - a + x) z ∙ plain-zero (l - a)) i (omega arith)
+      comes_plain k o l a b o' l' w e (d ∙ ap (λ (x : ℕ). l - a + x) z ∙ plain_zero (l - a)) i (omega arith)
     where
-      plain-zero : (x : ℕ) → x + 0 ≡ x
-      plain-zero x = omega arith
+      plain_zero : (x : ℕ) → x + 0 ≡ x
+      plain_zero x = omega arith
 
-      comes-plain : (k o l a b o' l' : ℕ) → o' ≤ k → o' ≡ o + b → l' ≡ l - a → a ≤ l → 1 ≤ a + b → l' + (k - o') + 1 ≤ l + (k - o)
-      comes-plain k o l a b o' l' w e d i g = omega arith
+      comes_plain : (k o l a b o' l' : ℕ) → o' ≤ k → o' ≡ o + b → l' ≡ l - a → a ≤ l → 1 ≤ a + b → l' + (k - o') + 1 ≤ l + (k - o)
+      comes_plain k o l a b o' l' w e d i g = omega arith
 
   -- c octets are carried and a filler of g octets is begun, or nothing at all
   balance : (c g : ℕ) → ((c ≡ D) × (g ≡ D - n + over)) ⊎ ((c ≡ 0) × (l ≡ 0) × (n ≡ 0) × (g ≡ 0) × (over ≡ 0))

@@ -17,7 +17,7 @@ use Rattle.frame.specs.Opening.{frame_of}
 use Rattle.frame.specs.declared.opening.Refusal.TheVariants.{SetUpRange, FrameLength, FrameCheck, FrameVersion, OtherSpacecraft, SecondaryHeader, NoData, OrderOrSegment, PointerPlace}
 use Rattle.frame.specs.declared.opening.Frame.{Frame}
 use Rattle.frame.specs.declared.set_up.SetUp.{SetUp}
-use Rattle.frame.proofs.NumberLaws.{number_one as frame-number-one}
+use Rattle.frame.proofs.NumberLaws.{number_one as frame_number_one}
 use Rattle.table.proofs.Laws.{first_exactly, made}
 use Rattle.channel.specs.State.{fresh_channel}
 use Rattle.channel.specs.declared.state.Channel.{Channel}
@@ -64,7 +64,7 @@ number_one s BrokenRecord e = sym (of_number s 4 e)
 number_one StoreLength (OfFrame r) e = of_number (OfFrame r) 2 (sym e)
 number_one OutputLength (OfFrame r) e = of_number (OfFrame r) 3 (sym e)
 number_one BrokenRecord (OfFrame r) e = of_number (OfFrame r) 4 (sym e)
-number_one (OfFrame s) (OfFrame r) e = ap OfFrame (frame-number-one s r e)
+number_one (OfFrame s) (OfFrame r) e = ap OfFrame (frame_number_one s r e)
 
 abbrev first_value : Answer → ℕ
 first_value a = get_or (values_of a) 0 0

@@ -1,6 +1,6 @@
 -- The paper's number and values for each case of a reading's answer (01, "When the desk says no", "What an accepted frame does").
 use Rattle.std.specs.Prelude.{List, [], ◌∷◌, ◌++◌, ℕ, replicate}
-use Rattle.frame.specs.Answers.{number_of as frameNumberOf, header_values}
+use Rattle.frame.specs.Answers.{number_of as frame_number_of, header_values}
 use Rattle.reading.specs.declared.Answer.{Answer}
 use Rattle.reading.specs.declared.Answer.TheVariants.{Refused, Accepted}
 use Rattle.reading.specs.declared.Refusal.{Refusal}
@@ -10,7 +10,7 @@ use Rattle.reading.specs.declared.Kind.TheVariants.{Packets, Idle, Private}
 
 -- the number of each refusal
 abbrev pub number_of : Refusal → ℕ
-number_of (OfFrame r) = frameNumberOf r
+number_of (OfFrame r) = frame_number_of r
 number_of StoreLength = 2
 number_of OutputLength = 3
 number_of BrokenRecord = 4

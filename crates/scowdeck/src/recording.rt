@@ -4,8 +4,9 @@ ghost use Rattle.keeping.specs.Keeping.{Keeps};
 
 use channel::{Output, Store};
 use desk::{Desk, Saved};
-use files::{read_full, save, within};
+use files::{save, within};
 use frame::SetUp;
+use input::read_full;
 use keeping::{Work, step};
 use lines::{accepted, blame, complain, refused};
 use reading::{Answer, Report};

@@ -21,8 +21,8 @@ mod words;
 ghost use Rattle.std.specs.Prelude.{◌≤◌, length};
 
 use hex::ROOM;
+use input::read_full;
 use printing::{end_line, text};
-use std::io::Read;
 use words::{end, find, number};
 
 // `a` and `b` are the second and the third word as numbers, whether they are meant as such or not.
@@ -89,20 +89,6 @@ fn run_script(rt: &impl Print, s: &[u8]) {
         end_line(rt);
         at = end + 1;
     }
-}
-
-// Reads until the room is full, the input ends or a read fails: how many octets came.
-fn read_full(input: &mut impl Read, room: &mut [u8]) -> usize
-    ensures { result ≤ length room.new }
-{
-    let mut n = 0;
-    while n < room.len() {
-        match input.read(&mut room[n..]) {
-            Ok(0) | Err(_) => return n,
-            Ok(more) => n += more,
-        }
-    }
-    n
 }
 
 fn main(rt: HostRuntime) {

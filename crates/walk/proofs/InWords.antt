@@ -418,16 +418,16 @@ oversize_at_six limit part field c k r follows gathers none over =
         let told = (size_in_words (take k part)).six (omega (arith, held)) (rules.version k gathers (omega arith)) in
         (source_lawful.total_stays (take k part) field (total_of (take k part)) told, (rules.total k gathers l).1)
 
-    held-six : 6 ≤ k → Dec (total_of (take k part) ≤ length d) → ⊥
-    held-six l (yes n) =
+    held_six : 6 ≤ k → Dec (total_of (take k part) ≤ length d) → ⊥
+    held_six l (yes n) =
         let t = within l in
         let w = walk_whole source source_lawful limit d (total_of (take k part)) (sym (sees_packet source limit d _ t.0 t.1 n)) in
         not_whole none (ap (λ (v : Walked). v.whole) w)
-    held-six l (no n) =
+    held_six l (no n) =
         let t = within l in
         let w = walk_stop source source_lawful limit d (End.Cut (length d)) (sym (sees_cut source limit d _ t.0 t.1 (omega arith))) in
         not_cut over (length d) (ap (λ (v : Walked). v.end) w)
 
     below : Dec (k < 6) → k < 6
     below (yes l) = l
-    below (no l) = absurd (held-six (omega arith) (dec_le (total_of (take k part)) (length d)))
+    below (no l) = absurd (held_six (omega arith) (dec_le (total_of (take k part)) (length d)))

@@ -92,10 +92,10 @@ module _ (u : SetUp) (channel : ℕ) (p : Place) (w : ControlWord) (run out : Li
       → m.0 ≡ after p.master.0 → k.0 ≡ after p.count.0
       → WroteBy u channel p w run Frame (record { offset = laid.offset; left_over = laid.left_over; master = m; count = k }) o
   unfolding next_place frame_written
-  wrote_by D field o laid distance pointer nothing m k eD el ef en ed ep eo em ek =
-      let lm : length (midst D out) ≡ close_size u w = length_midst D out (omega (arith, fits_in)) ∙ eD in
+  wrote_by D field o laid distance pointer nothing m k e_d el ef en ed ep eo em ek =
+      let lm : length (midst D out) ≡ close_size u w = length_midst D out (omega (arith, fits_in)) ∙ e_d in
       let q : pointer ≡ pointer_of (close_size u w) (distance_of run p.offset) p.left_over (nothing_of run p.offset p.left_over) =
-      rw (eD, ed, en) at ep in
+      rw (e_d, ed, en) at ep in
       let ef' : field ≡ field_of (close_size u w) run p.offset p.left_over =
       ef ∙ ap (λ (n : ℕ). field_of n run p.offset p.left_over) lm in
       record {
@@ -108,7 +108,7 @@ module _ (u : SetUp) (channel : ℕ) (p : Place) (w : ControlWord) (run out : Li
         };
         output_left =
             eo
-            ∙ ap (λ (n : ℕ). output_of u channel p.master p.count w pointer (around n out field)) eD
+            ∙ ap (λ (n : ℕ). output_of u channel p.master p.count w pointer (around n out field)) e_d
             ∙ (closed_around u channel p.master p.count w pointer out field r.fits r.channel_fits r.output_whole
             (ap length ef' ∙ length_field_lem (close_size u w) run p.offset p.left_over)).2
             ∙ ap₂ (frame_around u channel p.master p.count w) q ef';
