@@ -4,7 +4,7 @@
     python3 tests/one_answer_test.py [ROOT]
 
 A public operation is a function that another crate, or C, can name: a `pub fn` of a crate's root file, one that the root passes on by
-`pub use`, or an associated one. Forms of `pub` that this test does not know are errors, so that none is passed over. Only the parts of
+`pub use`, or an associated one. Forms of `pub`, and traits by hand, that this test does not know are errors, so that none is passed over. Only the parts of
 decision 15 may have a `requires`. What C calls are the functions of the static libraries, which no crate can cite: each has to be, word for
 word in its head and its clauses, a function of a library that has its field, and to call that one alone. A line for each thing that is
 wrong, and exit status 1.
@@ -21,7 +21,7 @@ APART = {"demands", "read_back", "nothing_glued", "bench", "one_answer", "desk",
 # Decision 15: parts that ask something of their arguments.
 PARTS = {
     "octets": {"octet", "octet_across", "copy", "fill"},
-    "numbers": {"number16", "number32", "put16", "put32"},
+    "numbers": {"number", "put"},
     "frame": {"data_size"},
     "packet": {"header.Header.of", "source.Packet.idle", "source.Packet.idle_across", "source.Packet.total"},
     "chain": {"distance"},
@@ -35,11 +35,15 @@ PARTS = {
     "host_answers": {"answer_read", "answer_write"},
 }
 
-HEAD = re.compile(r"^( *)pub fn (\w+)\(((?:[^()]|\(\))*)\)(?: -> ([^{}\n]+?))?(?=\s*(?:requires|ensures|\{))", re.M)
+SIZE = r"<const \w+: usize>"
+HEAD = re.compile(rf"^( *)pub fn (\w+)({SIZE})?\(((?:[^()]|\(\))*)\)(?: -> ([^{{}}\n]+?))?(?=\s*(?:requires|ensures|\{{))", re.M)
 CLAUSE = re.compile(r"\s*(requires|ensures)( \w+)? \{")
 KNOWN = re.compile(
-    r"^ *(?:pub fn \w+\(|pub struct \w+(?: \{|;|\((?:pub \w+(?:, )?)+\);)|pub enum \w+ \{|pub const [A-Z_]+: |pub use \w+::(?:\w+;|\{)|pub \w+: )"
+    rf"^ *(?:pub fn \w+(?:{SIZE})?\("
+    r"|pub struct \w+(?:<'a>)?(?: \{|;|\((?:pub \w+(?:, )?)+\);)|pub enum \w+ \{|pub const [A-Z_]+: |pub use \w+::(?:\w+;|\{)|pub \w+: )"
 )
+# Traits that a library's type has by hand, with clauses of their own and edits; what is derived has the clauses of the toolchain's derives.
+TRAITS = {"reading": {"From<frame::Refusal> for Refusal"}}
 PASSED_ON = re.compile(r"^pub use \w+::(?:(\w+)|\{([\w\s,]+)\});$", re.M)
 EXPORT = re.compile(r'^#\[unsafe\(no_mangle\)\]\npub extern "C" fn ', re.M)
 
@@ -66,7 +70,7 @@ def closing(text, at):
 
 
 def functions(text):
-    """Of each public function: where it begins, its indent, name, parameters and result, its clauses, and its body."""
+    """Of each public function: where it begins, its indent, name, size, parameters and result, its clauses, and its body."""
     found = []
     for m in HEAD.finditer(text):
         at, clauses = m.end(), []
@@ -80,8 +84,8 @@ def functions(text):
 
 
 def operations(crate, wrong):
-    """Each public operation's name in the crate's facade, with the places of its `&mut` parameters, whether it has a `requires`, and how many
-    `ensures` it has."""
+    """Each public operation's name in the crate's facade, with whether it has a size, whether its result is an array of that size, the places of
+    its `&mut` parameters, whether it has a `requires`, and how many `ensures` it has."""
     files = sources(crate)
     root = files[ROOT / "crates" / crate / "src/lib.rt"]
     passed_on = {name for one, some in PASSED_ON.findall(root) for name in re.findall(r"\w+", one + some)}
@@ -93,16 +97,22 @@ def operations(crate, wrong):
         for line in text.splitlines():
             if re.search(r"\b(?:pub|extern|no_mangle)\b", line.split("//")[0]) and not KNOWN.match(line):
                 wrong.append(f"{crate}: {path.name}: a form of `pub` that is not known: {line.strip()}")
-        for start, inside, name, params, _, clauses, _ in functions(text):
+        for said in re.findall(r"^ *(?:unsafe )?impl\b(?:<[^{]*?>)? ([^{]* for [^{]*?)(?: where [^{]*)? \{", text, re.M):
+            if said not in TRAITS.get(crate, set()):
+                wrong.append(f"{crate}: {path.name}: a trait by hand that this test does not know: {said}")
+        for start, inside, name, size, params, result, clauses, _ in functions(text):
+            array = bool(size) and result == f"[u32; {size[len('<const ') : -len(': usize>')]}]"
+            if size and (inside or "[" in (result or "") and not array):
+                wrong.append(f"{crate}: {name}: a size that this test cannot read")
             if inside:
-                kind = re.findall(r"^impl (\w+) \{", text[:start], re.M)[-1]
+                kind = re.findall(r"^impl(?:<'a>)? (\w+)(?:<'a>)? \{", text[:start], re.M)[-1]
                 name = f"{kind}.{name}" if homes[kind] == "lib" else f"{homes[kind]}.{kind}.{name}"
             elif not (path.name == "lib.rt" or name in passed_on):
                 continue
             each = [p.strip() for p in re.split(r",(?![^<\[]*[>\]])", params) if p.strip()]
             lent = [i for i, p in enumerate(each) if re.search(r":\s*&mut\b", p)]
             kinds = [kind for kind, _ in clauses]
-            found[name] = (lent, "requires" in kinds, kinds.count("ensures"))
+            found[name] = (bool(size), array, lent, "requires" in kinds, kinds.count("ensures"))
         if len(functions(text)) != len(re.findall(r"^ *pub fn ", text, re.M)):
             wrong.append(f"{crate}: {path.name}: a public function whose head this test cannot read")
     return found
@@ -132,13 +142,13 @@ def exported(wrong):
             code = re.sub(r"//.*", "", text)
             if len(own) != len(EXPORT.findall(text)) or len(own) != len(re.findall(r"\bfn\b", code)) or path.name != "lib.rt":
                 wrong.append(f"{crate}: {path.name}: a function that this test cannot read, or that is not exported")
-            for _, inside, name, params, result, clauses, body in own:
+            for _, inside, name, size, params, result, clauses, body in own:
                 called = re.match(r"(\w+)::(\w+)\(", body.strip())
                 there = said.get(called.groups()) if called else None
                 names = re.findall(r"(?:^|,)\s*(\w+)\s*:", params)
-                if inside or not there or called[2] != name or plain(body) != plain(f"{called[1]}::{name}({','.join(names)})"):
+                if inside or size or not there or called[2] != name or plain(body) != plain(f"{called[1]}::{name}({','.join(names)})"):
                     wrong.append(f"{crate}: {name} is not a call of a library's function of that name, with its own parameters")
-                elif [plain(params), result, clauses] != [plain(there[0]), *there[1:]] or not meant(text) <= means[called[1]]:
+                elif [size, plain(params), result, clauses] != [there[0], plain(there[1]), *there[2:]] or not meant(text) <= means[called[1]]:
                     wrong.append(f"{crate}: {name} does not say what {called[1]}::{name} says")
     return count
 
@@ -146,13 +156,17 @@ def exported(wrong):
 CLAUSES = {1: "one_clause _", 2: "two_clauses _ _", 3: "three_clauses _ _ _"}
 
 
-def expected(alias, lent, part, ensures):
+def expected(alias, sized, array, lent, part, ensures):
+    """The field: of a function that has a size, at each size n, and where the result is an array of n words, at each n that fits the memory."""
+    each, of, at = ("(n : ℕ) → ", "({}.ended (of_size n))", " (of_size n)") if sized else ("", "{}.ended", "")
+    each += "n * 4 < 2 ^ 63 → " if array else ""
     form = ("One" if part else "Answers") + ("Left" if lent else "")
-    asks = "" if part else " (λ κs a. no_clause)"
+    asks = "" if part else f" (λ κs a. {'array_clauses _ _' if array else 'no_clause'})"
     places = ", ".join("e" + ".1" * i + ".0.now" for i in lent)
     left = f" (λ κs e. {places})" if len(lent) == 1 else f" (λ κs e. ({places}))" if lent else ""
     says = CLAUSES.get(ensures, f"{ensures} clauses")
-    return f"{form} {alias}.ended (λ w. {alias}.clauses w.𝓛 w.𝓜.mem w.𝓡.returns) (λ κs a w. tt){asks} (λ κs a x e. {says}){left}"
+    clauses = f"(λ w. {alias}.clauses{at} w.𝓛 w.𝓜.mem w.𝓡.returns)"
+    return f"{each}{form} {of.format(alias)} {clauses} (λ κs a w. tt){asks} (λ κs a x e. {says}){left}"
 
 
 def proved(wrong):
@@ -175,14 +189,14 @@ def main():
     count = 0
     proved(wrong)
     for crate in libraries():
-        for name, (lent, asks, ensures) in operations(crate, wrong).items():
+        for name, (sized, array, lent, asks, ensures) in operations(crate, wrong).items():
             count += 1
             part = name in PARTS.get(crate, set())
             if asks != part:
                 wrong.append(f"{crate}: {name} " + ("has a `requires`, and is no part of decision 15" if asks else "is a part, and asks nothing"))
             alias = cited.pop((crate, name), "ALIAS")
-            if fields.pop(alias, None) != expected(alias, lent, part, ensures):
-                wrong.append(f"{crate}: {name} lacks the field `{expected(alias, lent, part, ensures)}`")
+            if fields.pop(alias, None) != expected(alias, sized, array, lent, part, ensures):
+                wrong.append(f"{crate}: {name} lacks the field `{expected(alias, sized, array, lent, part, ensures)}`")
     wrong += [f"{crate}: {name} is cited, and is no public operation" for crate, name in cited]
     wrong += [f"the field {name} is of no public operation" for name in fields]
     for_c = exported(wrong)

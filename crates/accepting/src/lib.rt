@@ -10,22 +10,24 @@ use channel::{Channel, Record, Store};
 use frame::{Frame, Header};
 use judging::gap_for;
 use packet::Packet;
-use reading::{Answer, Kind, Outcome, Report};
+use reading::{Kind, Outcome, Report};
 use steps::steps;
 
+#[tactic(auto, unfolding(reading::specs::Reading::kind_of))]
 fn kind_of(h: Header) -> Kind
     ensures { result ≡ kind_of h }
 {
     if h.synchronisation {
-        return Kind::Private;
+        Kind::Private
+    } else if h.pointer == Header::IDLE {
+        Kind::Idle
+    } else {
+        Kind::Packets
     }
-    if h.pointer == Header::IDLE {
-        return Kind::Idle;
-    }
-    Kind::Packets
 }
 
 // Steps 1 to 5 of a frame that passed all tests.
+#[tactic(auto, unfolding(channel::specs::Store::part_place))]
 pub fn accept(rec: Record, x: Frame, frame: &[u8], store: &mut [u8], out: &mut [u8]) -> Outcome
     requires { Ready source most rec x frame.now store.old out.old }
     ensures { ReadBy source most x rec store.old out.old frame.now result.answer result.after store.new out.new }
@@ -33,37 +35,32 @@ pub fn accept(rec: Record, x: Frame, frame: &[u8], store: &mut [u8], out: &mut [
     let h = x.header;
     let v = h.channel;
     let channel = rec.channels[v];
-    let from = x.place;
-    let to = from + x.size;
-    let at = Store::place(v);
-    let end = at + Store::PART;
     let gap = gap_for(channel, h);
+    let at = Store::place(v);
     let course = steps(
-        &frame[from..to],
+        &frame[x.place..x.place + x.size],
         h,
         channel,
         gap,
         Packet::MAX,
-        &mut store[at..end],
+        &mut store[at..at + Store::PART],
         out,
     );
-    let tally = course.tally;
-    let state = course.state;
-    let last = h.count;
     let mut after = rec;
     after.channels[v] = Channel {
         heard: true,
-        last,
-        state,
+        last: h.count,
+        state: course.state,
     };
     Outcome {
-        answer: Answer::Accepted(Report {
+        // Field by field: they come from the frame, the tally and the course.
+        answer: Ok(Report {
             kind: kind_of(h),
             header: h,
             word: x.word,
             gap,
-            delivered: tally.delivered,
-            idle: tally.idle,
+            delivered: course.tally.delivered,
+            idle: course.tally.idle,
             broken: course.broken,
             disagreement: course.disagreement,
             foreign: course.foreign,

@@ -1,5 +1,6 @@
 -- B1 to B8, computed from the definitions of reader and writer.
 -- Assumes nothing.
+use Rattle.std.specs.Prelude.{Option, Result, Ok, Err}
 use mathlib.Core.Path.{◌≡◌, refl, ◌∙◌, ap}
 use mathlib.Core.Bool.{true}
 use mathlib.Core.List.{List, [], ◌∷◌}
@@ -32,8 +33,8 @@ use Rattle.channel.specs.declared.state.Record.{Record}
 use Rattle.channel.specs.declared.state.State.{State}
 use Rattle.channel.specs.declared.state.State.TheVariants.{Gathering}
 use Rattle.reading.specs.Answers as reading
-use Rattle.reading.specs.declared.Answer.{Answer}
-use Rattle.reading.specs.declared.Answer.TheVariants.{Refused, Accepted}
+use Rattle.reading.specs.declared.Refusal.{Refusal}
+use Rattle.reading.specs.declared.Report.{Report}
 use Rattle.reading.specs.Reading as read
 use Rattle.walk.specs.Steps.{steps_of, carries_none, gap_for, hunted, course_of, resumed, gathered, agrees, agrees_by, called_at}
 use Rattle.walk.specs.Walk.{ended_by, walk_of, turns, turn, seen_of, front, cut_of, tallied_all, tallied, handed, handed_all}
@@ -174,7 +175,7 @@ outside : (rec : Record) (store out f : List ℕ) → (number (bench_of 12) rec 
 unfolding read.answer_over read.read_table_over row1 fits_of first_cause reading.values_of
 outside rec store out f = (refl, refl)
 
-outside_writing : (v : ℕ) (p : Place) (word : ControlWord) (r out : List ℕ)
+outside_writing : (v : ℕ) (p : Place) (word : Option ControlWord) (r out : List ℕ)
     → (writing_number (bench_of 12) v p word r out ≡ 1 ∷ []) × (writing_number (bench_of 2049) v p word r out ≡ 1 ∷ [])
 unfolding write.answer_of write.next_of write.write_table row1 fits_of first_cause writing.values_of
 outside_writing v p word r out = (refl, refl)
@@ -198,9 +199,9 @@ fresh_passes store out h o =
 at_most_292 : (u : SetUp) (rec : Record) (store out f : List ℕ) → (frame_of u f).size ≡ 2042 → packets_finished (read.answer_of u rec store out f) ≤ 292
 at_most_292 u rec store out f d = by (read.answer_of u rec store out f) refl
   where
-    by : (a : Answer) → read.answer_of u rec store out f ≡ a → packets_finished a ≤ 292
-    by (Refused r) e = omega arith
-    by (Accepted a) e =
+    by : (a : Result Report Refusal) → read.answer_of u rec store out f ≡ a → packets_finished a ≤ 292
+    by (Err r) e = omega arith
+    by (Ok a) e =
         let b : ((frame_of u f).size + 6) / 7 ≡ 292 = rw d in
         omega (arith, few_enough u rec store out f a e)
 

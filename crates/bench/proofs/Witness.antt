@@ -1,6 +1,7 @@
 -- The history of specs/Witness.antt meets the conditions of demand 3, what is due in each arrival is computed, and by demand 3 it is handed
 -- out.
 -- Assumes nothing.
+use Rattle.std.specs.Prelude.{Ok}
 use mathlib.Core.Path.{◌≡◌, refl, sym}
 use mathlib.Core.Bool.{Bool, true, false, ◌&&◌}
 use mathlib.Core.List.{List, [], ◌∷◌, ◌++◌, map}
@@ -22,7 +23,6 @@ use Rattle.frame.specs.Header.{header_of}
 use Rattle.frame.specs.Opening.{open_of, open_table, frame_table, frame_of, secondary_size, data_size, word_of, row1, row5, row6, row7, row8, row9, row10, row11, row12}
 use Rattle.frame.specs.SetUp.{fits_of, most_length}
 use Rattle.table.specs.Table.{first_cause}
-use Rattle.frame.specs.declared.opening.Opened.{Opened}
 use Rattle.frame.specs.declared.opening.Refusal.TheVariants.{OtherSpacecraft}
 use Rattle.channel.specs.State.{fresh_record}
 use Rattle.channel.specs.Store.{store_fits, output_fits}
@@ -55,7 +55,7 @@ unfolding below
 real6 = octets_by frame6 refl
 
 -- the sender's frames
-sent : (f : List ℕ) (count : ℕ) → below f ≡ true → open_of ours f ≡ Opened.Accepted (frame_of ours f)
+sent : (f : List ℕ) (count : ℕ) → below f ≡ true → open_of ours f ≡ Ok (frame_of ours f)
     → (frame_of ours f).header.channel ≡ 3 → (frame_of ours f).header.synchronisation ≡ false → (frame_of ours f).header.count.0 ≡ count
     → Sent ours 3 count f (frame_of ours f)
 sent f count o e c s n = record { real = octets_by f o; opens = e; channel = c; not_private = s; counted = n }
@@ -78,7 +78,7 @@ sends_all =
     (no_more 5 [])))))))
 
 -- an arriving frame keeps record and store fine
-arrived : (f : List ℕ) (rec : Record) (store out : List ℕ) → below f ≡ true → open_of ours f ≡ Opened.Accepted (frame_of ours f)
+arrived : (f : List ℕ) (rec : Record) (store out : List ℕ) → below f ≡ true → open_of ours f ≡ Ok (frame_of ours f)
     → Fine source most rec store → most + most_length ≤ length out → Fine source most (record_of ours rec store out f) (store_of ours rec store out f)
 arrived f rec store out o e k r = fine_after source_roomy ours rec store out f (frame_of ours f) k r e (octets_by f o)
 

@@ -1,17 +1,16 @@
 -- The bench examples B1 to B8 (01, "Bench examples") as one table under one claim, for every store and output of passing length. The proof is
 -- in proofs/Bench.antt.
-use Rattle.std.specs.Prelude.{◌≡◌, true, false, List, [], ◌∷◌, ◌++◌, ℕ, ◌+◌, ◌≤◌, length, get_or, take, set, replicate}
+use Rattle.std.specs.Prelude.{◌≡◌, true, false, List, [], ◌∷◌, ◌++◌, ℕ, ◌+◌, ◌≤◌, length, get_or, take, set, replicate, Option, None, Result, Ok, Err}
 use Rattle.frame.specs.Opening.{frame_of}
 use Rattle.frame.specs.declared.closing.ControlWord.{ControlWord}
-use Rattle.frame.specs.declared.closing.ControlWord.TheVariants.{Absent}
 use Rattle.frame.specs.declared.set_up.SetUp.{SetUp}
 use Rattle.channel.specs.State.{fresh_record}
 use Rattle.channel.specs.declared.state.Record.{Record}
 use Rattle.channel.specs.declared.state.State.TheVariants.{Hunting}
 use Rattle.reading.specs.Answers as reading
 use Rattle.reading.specs.Reading as read
-use Rattle.reading.specs.declared.Answer.{Answer}
-use Rattle.reading.specs.declared.Answer.TheVariants.{Refused, Accepted}
+use Rattle.reading.specs.declared.Refusal.{Refusal}
+use Rattle.reading.specs.declared.Report.{Report}
 use Rattle.writing.specs.Answers as writing
 use Rattle.writing.specs.Writing as write
 use Rattle.writing.specs.declared.Place.{Place}
@@ -56,7 +55,7 @@ AllHold (l ∷ ls) = Holds l × AllHold ls
 -- a writing's five values and its frame
 abbrev pub written : Place → List ℕ → List ℕ → List ℕ
 written p r out =
-    writing.values_of (write.answer_of bench 3 p r out) (write.next_of bench 3 p Absent r out) ++ write.output_of bench 3 p Absent r out
+    writing.values_of (write.answer_of bench 3 p r out) (write.next_of bench 3 p None r out) ++ write.output_of bench 3 p None r out
 
 -- a reading's twenty values
 abbrev pub told : Record → List ℕ → List ℕ → List ℕ → List ℕ
@@ -67,13 +66,13 @@ abbrev pub number : SetUp → Record → List ℕ → List ℕ → List ℕ → 
 number u rec store out f = get_or (reading.values_of (read.answer_of u rec store out f)) 0 0 ∷ []
 
 -- a writing's number
-abbrev pub writing_number : SetUp → ℕ → Place → ControlWord → List ℕ → List ℕ → List ℕ
+abbrev pub writing_number : SetUp → ℕ → Place → Option ControlWord → List ℕ → List ℕ → List ℕ
 writing_number u v p word r out = get_or (writing.values_of (write.answer_of u v p r out) (write.next_of u v p word r out)) 0 0 ∷ []
 
 -- how many packets a reading finishes: none if it is refused
-abbrev pub packets_finished : Answer → ℕ
-packets_finished (Refused r) = 0
-packets_finished (Accepted a) = a.delivered + a.idle
+abbrev pub packets_finished : Result Report Refusal → ℕ
+packets_finished (Err r) = 0
+packets_finished (Ok a) = a.delivered + a.idle
 
 -- a record in which channel 3 was heard, last with this count, and hunts
 abbrev pub heard_at : ℕ → Record
@@ -96,7 +95,7 @@ pub record Inputs : Type 0 where
   pub any_frame : List ℕ
   pub any_channel : ℕ
   pub any_place : Place
-  pub any_word : ControlWord
+  pub any_word : Option ControlWord
   pub any_run : List ℕ
   pub any_output : List ℕ
   -- for B8, any call of the reader

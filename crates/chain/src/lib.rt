@@ -2,18 +2,18 @@
 #![tactic(auto)]
 
 ghost use Rattle.std.specs.Prelude.{◌≡◌, true, ◌≤◌, length};
-ghost use Rattle.packet.specs.Chain.{front_of, chain_of, distance_of};
+ghost use Rattle.packet.specs.Chain.{front_of, option_of, chain_of, distance_of};
 
 use packet::{Packet, Size};
 
-// The octets of the whole packet that the run begins with; 0 if it begins with none.
-pub fn front(run: &[u8]) -> usize
-    ensures { result ≡ front_of run.now }
+// The octets of the whole packet that the run begins with, if it begins with one.
+#[tactic(auto, using(packet::proofs::Laws::total_least), unfolding(packet::specs::Chain::front_of, packet::specs::Chain::whole_in, packet::specs::Chain::option_of))]
+pub fn front(run: &[u8]) -> Option<usize>
+    ensures { result ≡ option_of (front_of run.now) }
 {
     match Packet::size(run) {
-        Size::Wait => 0,
-        Size::Foreign => 0,
-        Size::Total(n) => { if n <= run.len() { n } else { 0 } }
+        Size::Total(n) if n <= run.len() => Some(n),
+        _ => None,
     }
 }
 
@@ -21,15 +21,11 @@ pub fn front(run: &[u8]) -> usize
 pub fn is_chain(run: &[u8]) -> bool
     ensures { result ≡ chain_of run.now }
 {
-    let mut at = 0;
-    while at < run.len() {
-        let n = front(&run[at..]);
-        if n == 0 {
-            return false;
-        }
-        at += n;
+    let mut rest = run;
+    while let Some(n) = front(rest) {
+        rest = &rest[n..];
     }
-    true
+    rest.is_empty()
 }
 
 // From an offset into a chain to the first packet boundary at or after it.
@@ -38,9 +34,9 @@ pub fn distance(run: &[u8], offset: usize) -> usize
     ensures { result ≡ distance_of run.now offset }
 {
     let mut at = 0;
+    // A cursor and no for: each turn goes on by a packet's own length, and before its end a chain has a packet at each such place.
     while at < offset {
-        let n = front(&run[at..]);
-        at += n;
+        at += front(&run[at..]).unwrap();
     }
     at - offset
 }

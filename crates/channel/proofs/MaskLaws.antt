@@ -2,15 +2,14 @@
 -- Assumes nothing.
 use mathlib.Core.Path.{◌≡◌, refl, ◌∙◌, sym, ap}
 use mathlib.Core.Bool.{Bool, true, false}
-use mathlib.Core.List.{List, [], ◌∷◌}
-use Prim.Native.Nat.{ℕ, zero, suc, ◌+◌, ◌-◌, ◌*◌, ◌/◌, ◌%◌, ◌^◌, ◌≤◌, ◌<◌}
+use mathlib.Core.List.{List, [], ◌∷◌, ◌++◌}
+use Prim.Native.Nat.{ℕ, zero, suc, ◌+◌, ◌*◌, ◌/◌, ◌%◌, ◌^◌, ◌≤◌, ◌<◌}
 use native.Mathlib.Nat.{add-zero, div-one, mul-add, mul_assoc, mul-one, mul-zero, pow-suc}
 use native.Mathlib.Numerals.{one-add}
 use native.Mathlib.Omega.{arith}
-use lib.ListN.{length, get_or, drop, length-drop, drop_of_length-le}
+use lib.ListN.{length}
 use lib.Count.{ones, ones_step, count_trailing_zeros, under}
 use lib.Pow.{pow_mono, shr-shr}
-use lib.Seq.{drop-cons}
 use Rattle.octets.specs.Pick.{pick}
 use Rattle.octets.proofs.Laws.{pick_le}
 use Rattle.channel.specs.declared.state.Channel.{Channel}
@@ -39,24 +38,16 @@ unfolding mask_from
 mask_no_more [] = omega arith
 mask_no_more (c ∷ cs) = rw (mask_cons, pow-suc) (omega (arith, mask_no_more cs, pick_le (busy_channel c) 1))
 
--- a loop that takes the channels from the last down to the first: none yet, one more, and room for it in an octet
-module _ (cs : List Channel) (v : ℕ) where
-  pub mask_none : length cs ≤ v → 0 ≡ mask_of (drop v cs)
-  unfolding mask_from
-  mask_none h = rw (drop_of_length-le cs h)
+-- a loop that takes the channels from the last down, those passed behind those still to come: at its end, and the room in an octet for one more
+pub mask_end : (coming passed all : List Channel) (m : ℕ) → m ≡ mask_of passed → length coming ≡ 0 → coming ++ passed ≡ all → m ≡ mask_of all
+mask_end [] passed all m em z e = rw (em, e)
+mask_end (c ∷ cs) passed all m em z e = absurd (omega arith)
 
-  pub mask_turn : (d : Channel) (b : Bool) (m r : ℕ) → 0 < v → v ≤ length cs
-      → b ≡ busy_channel (get_or cs (v - 1) d) → m ≡ mask_of (drop v cs) → r ≡ pick b 1 0 + m * 2 → r ≡ mask_of (drop (v - 1) cs)
-  mask_turn d b m r h l eb em er =
-      let e : suc (v - 1) ≡ v = omega arith in
-      rw (er, eb, em) (sym (ap mask_of (drop-cons cs (v - 1) d (omega arith) ∙ ap (λ (n : ℕ). get_or cs (v - 1) d ∷ drop n cs) e)
-      ∙ mask_cons (get_or cs (v - 1) d) (drop v cs)))
-
-  pub mask_room : length cs ≡ 8 → 0 < v → mask_of (drop v cs) < 128
-  mask_room e h =
-      let l : length (drop v cs) ≤ 7 = simp length-drop (omega arith) in
-      let p : 2 ^ length (drop v cs) ≤ 2 ^ 7 = pow_mono l in
-      omega (arith, mask_no_more (drop v cs))
+pub mask_room : (coming passed : List Channel) (m : ℕ) → m ≡ mask_of passed → length coming + length passed ≡ 8 → 0 < length coming → m < 128
+mask_room coming passed m em l h =
+    let few : length passed ≤ 7 = omega arith in
+    let p : 2 ^ length passed ≤ 2 ^ 7 = pow_mono few in
+    omega (arith, mask_no_more passed)
 
 -- the lowest bit of a mask, and the mask without it
 module _ (c : Channel) (cs : List Channel) where

@@ -12,13 +12,10 @@ use native.Mathlib.Omega.{arith}
 use lib.Dec.{ltb, leb}
 use lib.ListN.{length, get_or, take, drop, drop_of_length-le}
 use lib.Seq.{drop-cons}
-use borrow.Author.Tests.{lt-ltb, le-ltb, le-leb, lt-leb, ltb-true, leb-true}
+use borrow.Author.Tests.{lt-ltb, le-ltb, le-leb, ltb-true, leb-true}
 use Rattle.packet.specs.Family.{Family}
-use Rattle.packet.specs.declared.source.Size.{Size}
-use Rattle.packet.specs.declared.source.Size.TheVariants.{Wait, Foreign, Total}
 use Rattle.channel.specs.declared.state.Channel.{Channel}
-use Rattle.channel.specs.declared.state.State.{State}
-use Rattle.channel.specs.declared.state.State.TheVariants.{Hunting, Gathering, Skipping}
+use Rattle.channel.specs.declared.state.State.TheVariants.{Gathering}
 use Rattle.channel.specs.Rules.{judged, state_follows, hunts, channel_follows, all_follow, record_follows}
 use Rattle.channel.specs.State.{fresh_channel}
 use Rattle.channel.specs.Store.{part_place, part_of}
@@ -32,45 +29,6 @@ both false b e = absurd (false≢true e)
 
 pub and : {a b : Bool} → a ≡ true → b ≡ true → (a && b) ≡ true
 and p q = rw (p, q)
-
--- nothing told yet keeps the rules, and another version does not
-module _ (limit k : ℕ) {s : Size} where
-  pub waits_keep : s ≡ Wait → true ≡ judged limit k s
-  unfolding judged
-  waits_keep e = rw e
-
-  pub foreign_breaks : s ≡ Foreign → false ≡ judged limit k s
-  unfolding judged
-  foreign_breaks e = rw e
-
--- a total above k is judged by the limit alone, and any other is refused
-module _ (limit k n : ℕ) {s : Size} (e : s ≡ Total n) where
-  pub total_above : k < n → leb n limit ≡ judged limit k s
-  unfolding judged
-  total_above h = rw (e, lt-ltb k n h)
-
-  pub total_not_above : n ≤ k → false ≡ judged limit k s
-  unfolding judged
-  total_not_above h = rw (e, le-ltb k n h)
-
--- a heard channel keeps the rules by its state, and an unheard one by hunting
-module _ (F : Family) (limit : ℕ) (part : List ℕ) (c : Channel) where
-  pub heard_follows : c.heard ≡ true → state_follows F limit part c.state ≡ channel_follows F limit part c
-  unfolding channel_follows
-  heard_follows h = rw h
-
-  module _ (h : c.heard ≡ false) where
-    pub unheard_hunting : c.state ≡ Hunting → true ≡ channel_follows F limit part c
-    unfolding channel_follows hunts
-    unheard_hunting e = rw (h, e)
-
-    pub unheard_gathering : (k : ℕ) → c.state ≡ Gathering k → false ≡ channel_follows F limit part c
-    unfolding channel_follows hunts
-    unheard_gathering k e = rw (h, e)
-
-    pub unheard_skipping : (r : ℕ) → c.state ≡ Skipping r → false ≡ channel_follows F limit part c
-    unfolding channel_follows hunts
-    unheard_skipping r e = rw (h, e)
 
 -- what the rules say of k octets gathered, and what makes them kept
 module _ (F : Family) (limit : ℕ) (part : List ℕ) (k : ℕ) where
@@ -96,26 +54,12 @@ module _ (F : Family) (limit : ℕ) (part : List ℕ) (k : ℕ) where
   unfolding state_follows
   gathers_above h = rw (le-ltb k limit h)
 
-  pub gathers_short : k < limit → length part < k → false ≡ state_follows F limit part (Gathering k)
-  unfolding state_follows
-  gathers_short h l = rw (lt-ltb k limit h, lt-leb k (length part) l)
-
 pub part_has_room : PartHasRoom
 part_has_room F limit k part l = go (dec_lt k limit)
   where
     go : Dec (k < limit) → state_follows F limit part (Gathering k) ≡ (ltb k limit && judged limit k (F.size (take k part)))
     go (yes h) = sym (gathers_below F limit part k h (omega arith)) ∙ rw (lt-ltb k limit h)
     go (no h) = sym (gathers_above F limit part k (omega arith)) ∙ rw (le-ltb k limit (omega arith))
-
-module _ (F : Family) (limit : ℕ) (part : List ℕ) {s : State} where
-  -- 1 octet or more to skip, up to the format's most
-  pub skips_none : (r : ℕ) → s ≡ Skipping r → r < 1 → false ≡ state_follows F limit part s
-  unfolding state_follows
-  skips_none r e h = rw (e, lt-leb 1 r h)
-
-  pub skips_some : (r : ℕ) → s ≡ Skipping r → 1 ≤ r → leb r F.most_skip ≡ state_follows F limit part s
-  unfolding state_follows
-  skips_some r e h = rw (e, le-leb 1 r h)
 
 -- the channels one by one: none is left, or one more, by what the code cuts out of the store for it
 module _ (F : Family) (limit : ℕ) (store : List ℕ) (cs : List Channel) (v : ℕ) where

@@ -3,7 +3,6 @@ ghost use Rattle.octets.specs.Pick.{pick};
 ghost use Rattle.channel.specs.Busy.{busy_state, mask_of, count_of, lowest_of};
 
 use crate::state::{Record, State};
-use frame::Header;
 
 pub fn busy_state(state: State) -> bool
     ensures { result ≡ busy_state state }
@@ -20,7 +19,7 @@ fn with_bit(mask: u8, busy: bool) -> u8
     requires { mask < 128 }
     ensures { result ≡ pick busy 1 0 + mask * 2 }
 {
-    if busy { mask * 2 + 1 } else { mask * 2 }
+    mask * 2 + u8::from(busy)
 }
 
 impl Record {
@@ -28,13 +27,9 @@ impl Record {
     pub fn busy(self) -> u8
         ensures { result ≡ mask_of self.channels }
     {
-        let mut mask: u8 = 0;
-        let mut v = Header::CHANNELS;
-        while 0 < v {
-            v -= 1;
-            let channel = self.channels[v];
-            let state = channel.state;
-            mask = with_bit(mask, busy_state(state));
+        let mut mask = 0;
+        for channel in self.channels.iter().rev() {
+            mask = with_bit(mask, busy_state(channel.state));
         }
         mask
     }
@@ -43,13 +38,13 @@ impl Record {
     pub fn busy_count(self) -> u32
         ensures { result ≡ count_of self.channels }
     {
-        u8::count_ones(self.busy())
+        self.busy().count_ones()
     }
 
-    // The lowest busy channel, 8 if none is.
+    // The lowest busy channel, 8 if none is: the paper's number for none, and no Option.
     pub fn lowest_busy(self) -> u32
         ensures { result ≡ lowest_of self.channels }
     {
-        u8::trailing_zeros(self.busy())
+        self.busy().trailing_zeros()
     }
 }

@@ -5,14 +5,16 @@ use frame::ChannelCount;
 
 // What a channel is about: looking for a packet's start, in the midst of one of which k octets are held, or passing over r octets
 // of one that is too long.
-#[derive(Clone, Copy)]
+#[derive(Clone, Copy, Default)]
 pub enum State {
+    #[default]
     Hunting,
     Gathering(usize),
     Skipping(usize),
 }
 
-#[derive(Clone, Copy)]
+// A flag and a count, and not an Option: a saved record gives back the last count of an unheard channel as it came (`saved_by`, `packed`).
+#[derive(Clone, Copy, Default)]
 pub struct Channel {
     pub heard: bool,
     pub last: ChannelCount,
@@ -20,7 +22,7 @@ pub struct Channel {
 }
 
 // All eight channels, in order. It means nothing without its store.
-#[derive(Clone, Copy)]
+#[derive(Clone, Copy, Default)]
 pub struct Record {
     pub channels: [Channel; 8],
 }
@@ -29,13 +31,6 @@ impl Record {
     pub fn fresh() -> Record
         ensures { result ≡ fresh_record }
     {
-        let unheard = Channel {
-            heard: false,
-            last: ChannelCount(0),
-            state: State::Hunting,
-        };
-        Record {
-            channels: [unheard; 8],
-        }
+        Record::default()
     }
 }

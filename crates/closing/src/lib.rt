@@ -1,60 +1,40 @@
 // Closing a frame: header, control word and check around a data field that lies in its place already.
 #![tactic(auto)]
 
-ghost use Rattle.std.specs.Prelude.{◌≡◌, true, ◌+◌, ◌-◌, ◌≤◌, ◌<◌, length};
+ghost use Rattle.std.specs.Prelude.{◌≡◌, true, ◌+◌, ◌≤◌, ◌<◌, length, OnOk};
 ghost use Rattle.octets.specs.Laid.{laid};
-ghost use Rattle.octets.specs.Pick.{pick};
-ghost use Rattle.frame.specs.Answers.{bit};
-ghost use Rattle.frame.specs.Closing.{flagged_by, word_octets, header_octets, close_of, close_size, output_of};
+ghost use Rattle.frame.specs.Closing.{word_octets, header_octets, close_of, close_size, output_of};
 ghost use Rattle.frame.specs.Inside.{checked_output};
 ghost use Rattle.frame.specs.SetUp.{fits_of};
 
-use frame::{
-    ChannelCount, CloseRefusal, Closed, ControlWord, Header, MasterCount, SetUp, data_size,
-};
+use frame::{ChannelCount, CloseRefusal, ControlWord, Header, MasterCount, SetUp, data_size};
 
-fn flagged(word: ControlWord) -> bool
-    ensures { result ≡ flagged_by word }
-{
-    match word {
-        ControlWord::Absent => false,
-        ControlWord::Present(_) => true,
-    }
-}
-
-// How many octets the word takes in the frame.
-fn word_size(word: ControlWord) -> usize
-    ensures { result ≡ length (word_octets word) }
-{
-    match word {
-        ControlWord::Absent => 0,
-        ControlWord::Present(_) => ControlWord::OCTETS,
-    }
-}
-
-fn write_word(word: ControlWord, output: &mut [u8], at: usize)
+#[tactic(auto, using(octets::proofs::Runs::laid_nil), unfolding(frame::specs::Closing::word_octets, octets::specs::Numbers::octets_of))]
+fn write_word(word: Option<ControlWord>, output: &mut [u8], at: usize)
     requires { at + length (word_octets word) ≤ length output.old }
     ensures { output.new ≡ laid output.old at (word_octets word) }
 {
-    match word {
-        ControlWord::Absent => {}
-        ControlWord::Present(number) => {
-            numbers::put32(output, at, number);
-        }
+    if let Some(word) = word {
+        numbers::put::<4>(output, at, word.0 as usize);
     }
 }
 
-// How many octets the check takes in the frame.
-fn check_size(set: SetUp) -> usize
-    ensures { result ≡ pick set.error_control 2 0 }
+// Tests 1, 20 and 25.
+#[tactic(auto, using(frame::proofs::ClosingSteps::outside, frame::proofs::ClosingSteps::above, frame::proofs::ClosingSteps::other_length, frame::proofs::ClosingSteps::no_cause))]
+fn tests(set: SetUp, channel: usize, output: &[u8]) -> Result<(), CloseRefusal>
+    ensures answer { result ≡ close_of set channel output.now }
+    ensures passed { OnOk result ((fits_of set ≡ true) × (channel < 8) × (length output.now ≡ set.length)) }
 {
-    if set.error_control { SetUp::CHECK } else { 0 }
-}
-
-fn bit_of(b: bool) -> usize
-    ensures { result ≡ bit b }
-{
-    if b { 1 } else { 0 }
+    if !set.fits() {
+        return Err(CloseRefusal::SetUpRange);
+    }
+    if Header::CHANNELS <= channel {
+        return Err(CloseRefusal::ChannelAbove);
+    }
+    if output.len() != set.length {
+        return Err(CloseRefusal::OutputLength);
+    }
+    Ok(())
 }
 
 fn write_header(
@@ -70,9 +50,13 @@ fn write_header(
     ensures { output.new ≡ laid output.old 0 (header_octets set channel master count flagged pointer) }
 {
     let spacecraft = set.spacecraft as usize;
-    numbers::put16(output, 0, spacecraft * 16 + channel * 2 + bit_of(flagged));
-    numbers::put16(output, 2, master.0 as usize * 256 + count.0 as usize);
-    numbers::put16(
+    numbers::put::<2>(
+        output,
+        0,
+        spacecraft * 16 + channel * 2 + usize::from(flagged),
+    );
+    numbers::put::<2>(output, 2, master.0 as usize * 256 + count.0 as usize);
+    numbers::put::<2>(
         output,
         4,
         Header::SEGMENT_ID as usize * 2048 + pointer % 2048,
@@ -87,43 +71,35 @@ fn write_check(set: SetUp, output: &mut [u8])
     if set.error_control {
         let at = output.len() - SetUp::CHECK;
         let field = crc::syndrome(&output[..at]);
-        numbers::put16(output, at, field as usize);
+        numbers::put::<2>(output, at, field as usize);
     }
 }
 
 // D, the length of the data field that `close` expects: of a frame with no secondary header.
-pub fn data_size_for(set: SetUp, word: ControlWord) -> usize
+pub fn data_size_for(set: SetUp, word: Option<ControlWord>) -> usize
     ensures { result ≡ close_size set word }
 {
-    data_size(set, 0, flagged(word))
+    data_size(set, 0, word.is_some())
 }
 
 // Writes the frame around the data field, which lies in its place in the output already. Of a pointer above 2047 it writes the low 11 bits:
-// 1, 20 and 25 are its only causes, in that order.
+// 1, 20 and 25 are its only causes, in that order. The parameters are a frame's header values, each by itself, as C gives them.
 pub fn close(
     set: SetUp,
     channel: usize,
     master: MasterCount,
     count: ChannelCount,
-    word: ControlWord,
+    word: Option<ControlWord>,
     pointer: usize,
     output: &mut [u8],
-) -> Closed
+) -> Result<(), CloseRefusal>
     ensures answer { result ≡ close_of set channel output.old }
     ensures output { output.new ≡ output_of set channel master count word pointer output.old }
 {
-    if !set.fits() {
-        return Closed::Refused(CloseRefusal::SetUpRange);
-    }
-    if Header::CHANNELS <= channel {
-        return Closed::Refused(CloseRefusal::ChannelAbove);
-    }
-    if output.len() != set.length {
-        return Closed::Refused(CloseRefusal::OutputLength);
-    }
-    write_header(set, channel, master, count, flagged(word), pointer, output);
-    let taken = word_size(word) + check_size(set);
-    write_word(word, output, set.length - taken);
+    tests(set, channel, output)?;
+    write_header(set, channel, master, count, word.is_some(), pointer, output);
+    let end = Header::SIZE + data_size_for(set, word);
+    write_word(word, output, end);
     write_check(set, output);
-    Closed::Written
+    Ok(())
 }

@@ -8,10 +8,10 @@ use native.Mathlib.Numerals.{add-one}
 use native.Mathlib.Omega.{arith}
 use lib.ListN.{length}
 use lib.Pow.{pow-add, pow_mono, split, high, shl_lt}
-use lib.Bits.{bit_xor, xor_block, xor_shr, xor_self, xor_zero_r, xor_shifted, xor_lt}
+use lib.Bits.{bit_xor, xor_assoc, xor_block, xor_shr, xor_self, xor_zero_r, xor_shifted, xor_lt}
 use Rattle.crc.specs.Register.{generator, times_x, step, over, bits, bits_of, preset, syndrome_of}
 use Rattle.crc.specs.Book.{number}
-use Rattle.crc.proofs.Xor.{by_digit, xor_assoc, xor_swap, xor_double, eq_of_xor}
+use Rattle.crc.proofs.Xor.{by_digit, xor_swap, xor_double, eq_of_xor}
 use Rattle.crc.proofs.Digits.{Digits, digits_bits, length_bits, number_bits, number_lt, bits_of_append}
 
 -- a number below 2^16 by its top digit and the rest

@@ -14,11 +14,9 @@ pub fn syndrome(bytes: &[u8]) -> u16
 {
     let table = table::entries();
     let mut r = PRESET;
-    let mut i = 0;
-    while i < bytes.len() {
+    for octet in bytes {
         let top = (r >> 8) as u8;
-        r = (r << 8) ^ table[(top ^ bytes[i]) as usize];
-        i += 1;
+        r = (r << 8) ^ table[usize::from(top ^ *octet)];
     }
     r
 }

@@ -1,6 +1,7 @@
 -- One call with the kept record and store: what an accepted frame of the sender answers and leaves in its channel, and what every other
 -- call keeps.
 -- Assumes nothing.
+use Rattle.std.specs.Prelude.{Ok}
 use mathlib.Core.Path.{◌≡◌, refl, ◌∙◌, sym, ap}
 use mathlib.Core.Bool.{true}
 use mathlib.Core.List.{List, ◌++◌}
@@ -17,7 +18,6 @@ use Rattle.frame.specs.Opening.{open_of, frame_of, idle_data}
 use Rattle.frame.specs.SetUp.{most_length}
 use Rattle.table.specs.Table.{None}
 use Rattle.frame.specs.declared.opening.Frame.{Frame}
-use Rattle.frame.specs.declared.opening.Opened.{Opened}
 use Rattle.frame.specs.declared.set_up.SetUp.{SetUp}
 use Rattle.frame.proofs.Laws.{accepted_exactly, opened_sound}
 use Rattle.channel.specs.Rules.{record_follows}
@@ -26,7 +26,6 @@ use Rattle.channel.specs.Store.{store_fits, output_fits, part_place, part_of, wi
 use Rattle.channel.specs.declared.state.Record.{Record}
 use Rattle.channel.proofs.Laws.{part_own}
 use Rattle.channel.proofs.PartLaws.{apart}
-use Rattle.reading.specs.declared.Answer.TheVariants.{Accepted}
 use Rattle.reading.specs.Reading.{read_table_over, record_over, store_over, channel_of, done_by, report_of, record_after, store_after, output_after, ReadOver}
 use Rattle.walk.specs.Walk.{Done}
 use Rattle.reading.specs.Theorems.{Keeps}
@@ -62,7 +61,7 @@ part_of_length limit v store part e h l =
     )
 
 -- a frame that opens: its count, and how many octets of the stream it carries
-module _ (u : SetUp) (f : List ℕ) (x : Frame) (opens : open_of u f ≡ Opened.Accepted x) where
+module _ (u : SetUp) (f : List ℕ) (x : Frame) (opens : open_of u f ≡ Ok x) where
   frame_is : x ≡ frame_of u f
   frame_is = ((accepted_exactly u f x).0 opens).0
 
@@ -77,7 +76,7 @@ module _ (u : SetUp) (f : List ℕ) (x : Frame) (opens : open_of u f ≡ Opened.
 
 module _ {F : Family} {limit : ℕ} (G : Roomy F limit)
     (u : SetUp) (rec : Record) (store out f : List ℕ) (x : Frame) (fine : Fine F limit rec store) (room : limit + most_length ≤ length out)
-    (opens : open_of u f ≡ Opened.Accepted x) where
+    (opens : open_of u f ≡ Ok x) where
   no_cause : (x ≡ frame_of u f) × None (read_table_over F limit u rec store out f)
   unfolding store_fits output_fits
   no_cause =
@@ -85,7 +84,7 @@ module _ {F : Family} {limit : ℕ} (G : Roomy F limit)
       (le-leb (limit + most_length) (length out) room) fine.follows x opens
 
   pub read : let d : Done = done_by F limit x rec store f in
-      ReadOver F limit u rec store out f (Accepted (report_of F x (channel_of x rec) d)) (record_after x rec d) (store_after limit x store d) (output_after F out d)
+      ReadOver F limit u rec store out f (Ok (report_of F x (channel_of x rec) d)) (record_after x rec d) (store_after limit x store d) (output_after F out d)
   read = accepts F limit u rec store out f x no_cause _ _ _ _ (record { answers = refl; record_left = refl; store_left = refl; output_left = refl })
 
   module _ (real : Octets f) where

@@ -9,6 +9,7 @@ use lib.Dec.{ltb, leb}
 use lib.ListN.{length, take, drop, replicate, length-append}
 use lib.Seq.{take-append_seam, drop-append_seam}
 use borrow.Author.Tests.{le-leb}
+use Rattle.std.specs.Prelude.{Result, Ok}
 use Rattle.octets.specs.Laid.{laid}
 use Rattle.octets.specs.Pick.{pick}
 use Rattle.packet.specs.Chain.{whole_in}
@@ -17,8 +18,7 @@ use Rattle.packet.specs.Theorems.{end_to_end}
 use Rattle.frame.specs.declared.set_up.SetUp.{SetUp}
 use Rattle.channel.specs.declared.state.Record.{Record}
 use Rattle.reading.specs.Reading.{record_over, store_over}
-use Rattle.reading.specs.declared.Answer.{Answer}
-use Rattle.reading.specs.declared.Answer.TheVariants.{Accepted}
+use Rattle.reading.specs.declared.Refusal.{Refusal}
 use Rattle.reading.specs.declared.Report.{Report}
 use Rattle.demands.specs.History.{Event, Delivers, all_arrived, arrived_whole, brought, came_after, carried, delivered_of, handed_out}
 use Rattle.demands.specs.History.{last_in, packets_in, wanted}
@@ -73,8 +73,8 @@ whole_wanted F (p ∷ ps) w = go (F.idle p) (whole_wanted F ps w.1)
 
 module _ (F : Family) (laws : Lawful F) (limit : ℕ) (u : SetUp) where
   -- one call, by what it answers and leaves
-  hands_due : (a : Answer) (r : Report) (out left : List ℕ) (due : List (List ℕ)) → AllWhole F due
-      → a ≡ Accepted r → left ≡ laid out 0 (end_to_end due) → r.delivered ≡ length due → packets_in F (delivered_of a) left ≡ due
+  hands_due : (a : Result Report Refusal) (r : Report) (out left : List ℕ) (due : List (List ℕ)) → AllWhole F due
+      → a ≡ Ok r → left ≡ laid out 0 (end_to_end due) → r.delivered ≡ length due → packets_in F (delivered_of a) left ≡ due
   unfolding delivered_of
   hands_due a r out left due w e h d = rw (e, h, d) (packets_out F laws due out w)
 

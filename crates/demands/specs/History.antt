@@ -1,6 +1,6 @@
 -- A history of calls with the kept record and store: frames of the sender arrive or are lost, and other calls come in between. Over a packet
 -- family and the limit of a delivered packet.
-use Rattle.std.specs.Prelude.{◌≡◌, Bool, true, false, ◌&&◌, List, [], ◌∷◌, ◌++◌, ◌⊎◌, ℕ, zero, suc, ◌+◌, ◌≤◌, eqb, ltb, leb, length, take, drop, replicate}
+use Rattle.std.specs.Prelude.{◌≡◌, Bool, true, false, ◌&&◌, List, [], ◌∷◌, ◌++◌, ◌⊎◌, ℕ, zero, suc, ◌+◌, ◌≤◌, eqb, ltb, leb, length, take, drop, replicate, Result, Ok, Err}
 use Rattle.octets.specs.Laid.{laid}
 use Rattle.octets.specs.Pick.{pick}
 use Rattle.packet.specs.Chain.{whole_in}
@@ -12,8 +12,6 @@ use Rattle.frame.specs.SetUp.{most_length}
 use Rattle.frame.specs.declared.set_up.SetUp.{SetUp}
 use Rattle.channel.specs.declared.state.Record.{Record}
 use Rattle.reading.specs.Reading.{answer_over, record_over, store_over, output_over}
-use Rattle.reading.specs.declared.Answer.{Answer}
-use Rattle.reading.specs.declared.Answer.TheVariants.{Refused, Accepted}
 use Rattle.reading.specs.declared.Refusal.{Refusal}
 use Rattle.reading.specs.declared.Report.{Report}
 
@@ -36,13 +34,13 @@ most_missing = 255
 
 -- a call that is refused, by whatever number; it may carry the sender's own frame
 abbrev pub Refuses : Family → ℕ → SetUp → Record → List ℕ → List ℕ → List ℕ → Type 0
-Refuses F limit u rec store out f = (r : Refusal) × (answer_over F limit u rec store out f ≡ Refused r)
+Refuses F limit u rec store out f = (r : Refusal) × (answer_over F limit u rec store out f ≡ Err r)
 
 -- a call that is refused, or accepted on another channel than v
 abbrev pub Harmless : Family → ℕ → ℕ → SetUp → Record → List ℕ → List ℕ → List ℕ → Type 0
 Harmless F limit v u rec store out f =
     Refuses F limit u rec store out f
-    ⊎ ((a : Report) × ((answer_over F limit u rec store out f ≡ Accepted a) × (a.header.channel ≡ v → ⊥)))
+    ⊎ ((a : Report) × ((answer_over F limit u rec store out f ≡ Ok a) × (a.header.channel ≡ v → ⊥)))
 
 -- the history keeps to the demand's conditions. `heard`: a frame of the sender arrived already; `missing`: how many were lost since;
 -- `fs`: the frames still to come
@@ -97,7 +95,7 @@ brought limit u tail ps came f =
 -- what the call that brings f answers and hands out
 pub record Call (F : Family) (limit : ℕ) (u : SetUp) (rec : Record) (store out f : List ℕ) (due idle : List (List ℕ)) : Type 0 where
   pub report : Report
-  pub accepted : answer_over F limit u rec store out f ≡ Accepted report
+  pub accepted : answer_over F limit u rec store out f ≡ Ok report
   pub hands : output_over F limit u rec store out f ≡ laid out 0 (end_to_end due)
   pub delivered : report.delivered ≡ length due
   pub idle_ones : report.idle ≡ length idle
@@ -129,9 +127,9 @@ packets_in F (suc n) out =
     take first out ∷ packets_in F n (drop first out)
 
 -- how many packets an answer says were delivered
-unfoldable pub delivered_of : Answer → ℕ
-delivered_of (Refused r) = 0
-delivered_of (Accepted a) = a.delivered
+unfoldable pub delivered_of : Result Report Refusal → ℕ
+delivered_of (Err r) = 0
+delivered_of (Ok a) = a.delivered
 
 -- what all arrivals of a history together hand out: of the output of each as many packets as its answer says, one after the other, with record
 -- and store kept between calls; what other calls hand out is not of this channel

@@ -1,11 +1,10 @@
 -- The sender of demand 3 (01, the last paragraph of "Writing one frame"): described, and not computed.
-use Rattle.std.specs.Prelude.{◌≡◌, Bool, true, false, List, [], ◌∷◌, ◌++◌, ℕ, suc, ◌≤◌, length, take, drop}
+use Rattle.std.specs.Prelude.{◌≡◌, Bool, true, false, List, [], ◌∷◌, ◌++◌, ℕ, suc, ◌≤◌, length, take, drop, Ok}
 use Rattle.octets.specs.Pick.{pick}
 use Rattle.octets.specs.Octets.{Octets}
 use Rattle.frame.specs.Counts.{after}
 use Rattle.frame.specs.Opening.{open_of, idle_data, none_starts}
 use Rattle.frame.specs.declared.opening.Frame.{Frame}
-use Rattle.frame.specs.declared.opening.Opened.{Opened}
 use Rattle.frame.specs.declared.set_up.SetUp.{SetUp}
 use Rattle.reading.specs.Reading.{field_of}
 
@@ -50,7 +49,7 @@ between (m ∷ ms) = m.starts
 -- a frame of the sender: it passes tests 5 to 12 under the set-up, is of channel v and not private, and has this channel count
 pub record Sent (u : SetUp) (v : ℕ) (count : ℕ) (f : List ℕ) (x : Frame) : Type 0 where
   pub real : Octets f
-  pub opens : open_of u f ≡ Opened.Accepted x
+  pub opens : open_of u f ≡ Ok x
   pub channel : x.header.channel ≡ v
   pub not_private : x.header.synchronisation ≡ false
   pub counted : x.header.count.0 ≡ count

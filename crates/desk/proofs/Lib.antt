@@ -1,4 +1,3 @@
-pub mod CountLaws
 pub mod OnceLaws
 pub mod SavedLaws
 pub mod Spans

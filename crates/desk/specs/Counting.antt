@@ -1,8 +1,7 @@
 -- What is counted, channel by channel.
-use Rattle.std.specs.Prelude.{ℕ, ◌+◌, min, eqb, ltb, get_or, replicate, set}
+use Rattle.std.specs.Prelude.{ℕ, ◌+◌, min, eqb, ltb, get_or, replicate, set, Result, Ok, Err}
 use Rattle.octets.specs.Pick.{pick}
-use Rattle.reading.specs.declared.Answer.{Answer}
-use Rattle.reading.specs.declared.Answer.TheVariants.{Refused, Accepted}
+use Rattle.reading.specs.declared.Refusal.{Refusal}
 use Rattle.reading.specs.declared.Report.{Report}
 use Rattle.desk.specs.declared.counting.Sums.{Sums}
 use Rattle.desk.specs.declared.counting.Totals.{Totals}
@@ -50,6 +49,6 @@ totals_with t r =
 unfoldable pub totals_refused : Totals → Totals
 totals_refused t = record { channels = t.channels; frames = min (t.frames + 1) most; refused = min (t.refused + 1) most }
 
-unfoldable pub totals_after : Totals → Answer → Totals
-totals_after t (Refused r) = totals_refused t
-totals_after t (Accepted r) = totals_with t r
+unfoldable pub totals_after : Totals → Result Report Refusal → Totals
+totals_after t (Err r) = totals_refused t
+totals_after t (Ok r) = totals_with t r

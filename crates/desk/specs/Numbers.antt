@@ -1,8 +1,6 @@
 -- A word of the command line as a number.
-use Rattle.std.specs.Prelude.{List, [], ◌∷◌, ℕ, ◌+◌, ◌*◌, ◌-◌, ltb}
+use Rattle.std.specs.Prelude.{List, [], ◌∷◌, ℕ, ◌+◌, ◌*◌, ◌-◌, ltb, Option, None, Some}
 use Rattle.octets.specs.Pick.{pick}
-use Rattle.desk.specs.declared.words.Number.{Number}
-use Rattle.desk.specs.declared.words.Number.TheVariants.{Value, Bad}
 
 -- what the octet of a decimal digit stands for, 10 if it is none
 unfoldable pub digit_of : ℕ → ℕ
@@ -13,12 +11,12 @@ abbrev pub largest : ℕ
 largest = 4294967295
 
 -- the digits after those that n stands for
-unfoldable pub digits_from : ℕ → List ℕ → Number
-digits_from n [] = Value n
+unfoldable pub digits_from : ℕ → List ℕ → Option ℕ
+digits_from n [] = Some n
 digits_from n (b ∷ w) =
-    pick (ltb 9 (digit_of b)) Bad (pick (ltb largest (n * 10 + digit_of b)) Bad (digits_from (n * 10 + digit_of b) w))
+    pick (ltb 9 (digit_of b)) None (pick (ltb largest (n * 10 + digit_of b)) None (digits_from (n * 10 + digit_of b) w))
 
 -- one digit at least
-unfoldable pub decimal_of : List ℕ → Number
-decimal_of [] = Bad
+unfoldable pub decimal_of : List ℕ → Option ℕ
+decimal_of [] = None
 decimal_of (b ∷ w) = digits_from 0 (b ∷ w)

@@ -1,14 +1,13 @@
 -- What is proved of the desk besides the functions' contracts. The proofs are in proofs/SavedLaws.antt and OnceLaws.antt, under these names in lower
 -- case.
-use Rattle.std.specs.Prelude.{List, ◌≡◌, ℕ, take}
+use Rattle.std.specs.Prelude.{List, ◌≡◌, ℕ, take, Result, Ok}
 use Rattle.packet.specs.Size.{most, source}
 use Rattle.frame.specs.Opening.{frame_of}
 use Rattle.frame.specs.declared.set_up.SetUp.{SetUp}
 use Rattle.channel.specs.declared.state.Record.{Record}
 use Rattle.reading.specs.Reading.{Read, done_by}
 use Rattle.walk.specs.Walk.{handed_all}
-use Rattle.reading.specs.declared.Answer.{Answer}
-use Rattle.reading.specs.declared.Answer.TheVariants.{Accepted}
+use Rattle.reading.specs.declared.Refusal.{Refusal}
 use Rattle.reading.specs.declared.Report.{Report}
 use Rattle.desk.specs.Counting.{totals_after}
 use Rattle.desk.specs.Saving.{octets_of}
@@ -17,8 +16,8 @@ use Rattle.desk.specs.declared.taking.Taken.{Taken}
 
 -- after a reading that accepted its frame, the octets that are saved are its delivered packets, end to end, and nothing else
 abbrev pub SavedExactly : Type 0
-SavedExactly = (u : SetUp) (rec : Record) (store out f : List ℕ) (answer : Answer) (rec' : Record) (store' out' : List ℕ) (a : Report)
-    → Read u rec store out f answer rec' store' out' → answer ≡ Accepted a
+SavedExactly = (u : SetUp) (rec : Record) (store out f : List ℕ) (answer : Result Report Refusal) (rec' : Record) (store' out' : List ℕ) (a : Report)
+    → Read u rec store out f answer rec' store' out' → answer ≡ Ok a
     → take (octets_of answer out') out' ≡ handed_all source (done_by source most (frame_of u f) rec store f).whole
 
 -- any two results of `take` that its contract allows are equal, with what they leave in store and output

@@ -2,9 +2,9 @@
 ghost use Rattle.std.specs.Prelude.{◌≡◌, ◌+◌, min};
 ghost use Rattle.desk.specs.Counting.{most, counted_of, gap_count, no_totals, totals_with, totals_refused, totals_after};
 
-use reading::{Answer, Report};
+use reading::{Refusal, Report};
 
-#[derive(Clone, Copy)]
+#[derive(Clone, Copy, Default)]
 pub struct Sums {
     pub frames: u64,
     // Frames that a gap stood before, and the frames that were missing in all of them.
@@ -19,7 +19,7 @@ pub struct Sums {
 }
 
 // The eight channels, in order.
-#[derive(Clone, Copy)]
+#[derive(Clone, Copy, Default)]
 pub struct Totals {
     pub channels: [Sums; 8],
     // Frames handed over, and those of them that were refused.
@@ -28,49 +28,37 @@ pub struct Totals {
 }
 
 impl Totals {
+    #[tactic(auto, unfolding(crate::specs::Counting::no_totals))]
     pub fn none() -> Totals
         ensures { result ≡ no_totals }
     {
-        let nothing = Sums {
-            frames: 0,
-            gaps: 0,
-            missing: 0,
-            delivered: 0,
-            idle: 0,
-            broken: 0,
-            disagreement: 0,
-            foreign: 0,
-            oversize: 0,
-        };
-        Totals {
-            channels: [nothing; 8],
-            frames: 0,
-            refused: 0,
-        }
+        Totals::default()
     }
 }
 
+// The library's, by the name that decision 34 and files have of it.
 pub fn more(a: u64, n: u64) -> u64
     ensures { result ≡ min (a + n) most }
 {
-    if n <= u64::MAX - a { a + n } else { u64::MAX }
+    a.saturating_add(n)
 }
 
 // 1 for a gap, 0 for none.
 fn gaps(gap: u8) -> u64
     ensures { result ≡ gap_count gap }
 {
-    if gap == 0 { 0 } else { 1 }
+    u64::from(gap != 0)
 }
 
 // One more accepted frame.
+#[tactic(auto, unfolding(crate::specs::Counting::counted_of))]
 fn counted(s: Sums, r: Report) -> Sums
     ensures { result ≡ counted_of s r }
 {
     Sums {
         frames: more(s.frames, 1),
         gaps: more(s.gaps, gaps(r.gap)),
-        missing: more(s.missing, r.gap as u64),
+        missing: more(s.missing, u64::from(r.gap)),
         delivered: more(s.delivered, r.delivered as u64),
         idle: more(s.idle, r.idle as u64),
         broken: more(s.broken, r.broken as u64),
@@ -81,35 +69,39 @@ fn counted(s: Sums, r: Report) -> Sums
 }
 
 // An accepted frame counts on its own channel, which is one of the eight.
+#[tactic(auto, unfolding(crate::specs::Counting::totals_with))]
 fn with_frame(t: Totals, r: Report) -> Totals
     ensures { result ≡ totals_with t r }
 {
-    let h = r.header;
-    let v = h.channel;
-    let mut next = t;
-    next.frames = more(t.frames, 1);
+    let v = r.header.channel;
+    let mut next = Totals {
+        frames: more(t.frames, 1),
+        ..t
+    };
+    // By index: a proof knows no element of a slice after its `get_mut`.
     if v < 8 {
-        let s = t.channels[v];
-        next.channels[v] = counted(s, r);
-        return next;
+        next.channels[v] = counted(t.channels[v], r);
     }
     next
 }
 
+#[tactic(auto, unfolding(crate::specs::Counting::totals_refused))]
 fn with_refusal(t: Totals) -> Totals
     ensures { result ≡ totals_refused t }
 {
-    let mut next = t;
-    next.frames = more(t.frames, 1);
-    next.refused = more(t.refused, 1);
-    next
+    Totals {
+        frames: more(t.frames, 1),
+        refused: more(t.refused, 1),
+        ..t
+    }
 }
 
-pub fn after(t: Totals, answer: Answer) -> Totals
+#[tactic(auto, unfolding(crate::specs::Counting::totals_after))]
+pub fn after(t: Totals, answer: Result<Report, Refusal>) -> Totals
     ensures { result ≡ totals_after t answer }
 {
     match answer {
-        Answer::Refused(_) => with_refusal(t),
-        Answer::Accepted(r) => with_frame(t, r),
+        Err(_) => with_refusal(t),
+        Ok(r) => with_frame(t, r),
     }
 }

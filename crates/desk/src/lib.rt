@@ -10,4 +10,4 @@ mod words;
 pub use counting::{Sums, Totals, after, more};
 pub use saving::{Saved, octets_of};
 pub use taking::{Desk, Taken};
-pub use words::{Number, spelt};
+pub use words::spelt;

@@ -5,7 +5,7 @@ ghost use Rattle.desk.specs.Counting.{no_totals};
 
 use crate::counting::Totals;
 use channel::Record;
-use reading::Answer;
+use reading::{Refusal, Report};
 
 // What is kept from frame to frame, besides the store.
 #[derive(Clone, Copy)]
@@ -28,7 +28,7 @@ impl Desk {
 // The reader's answer, the desk from now on, and how many octets of the output are packets to be saved.
 #[derive(Clone, Copy)]
 pub struct Taken {
-    pub answer: Answer,
+    pub answer: Result<Report, Refusal>,
     pub next: Desk,
     pub octets: usize,
 }

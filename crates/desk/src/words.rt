@@ -1,48 +1,31 @@
 // A word of the command line as a number.
-ghost use Rattle.std.specs.Prelude.{◌≡◌};
+ghost use Rattle.std.specs.Prelude.{◌≡◌, SomeIff, ◌<◌};
 ghost use Rattle.desk.specs.Numbers.{digit_of, decimal_of};
 
 // Numbers are at most this.
 const MOST: usize = 4294967295;
 
-#[derive(Clone, Copy)]
-pub enum Number {
-    Value(usize),
-    Bad,
-}
-
-// What a decimal digit stands for, 10 if it is none.
-fn digit(b: u8) -> usize
-    ensures { result ≡ digit_of b }
+// What a decimal digit stands for.
+#[tactic(auto, unfolding(crate::specs::Numbers::digit_of))]
+fn digit(b: u8) -> Option<usize>
+    ensures { SomeIff result (digit_of b < 10) (digit_of b) }
 {
-    if b < b'0' {
-        return 10;
-    }
-    if b'9' < b {
-        return 10;
-    }
-    (b - b'0') as usize
+    char::from(b).to_digit(10).map(|d| d as usize)
 }
 
 // A word of decimal digits, one at least.
-pub fn spelt(word: &[u8]) -> Number
+pub fn spelt(word: &[u8]) -> Option<usize>
     ensures { result ≡ decimal_of word.now }
 {
-    if word.len() == 0 {
-        return Number::Bad;
+    if word.is_empty() {
+        return None;
     }
-    let mut n: usize = 0;
-    let mut i = 0;
-    while i < word.len() {
-        let d = digit(word[i]);
-        if 9 < d {
-            return Number::Bad;
-        }
-        n = n * 10 + d;
+    let mut n = 0;
+    for b in word {
+        n = n * 10 + digit(*b)?;
         if MOST < n {
-            return Number::Bad;
+            return None;
         }
-        i += 1;
     }
-    Number::Value(n)
+    Some(n)
 }

@@ -5,10 +5,7 @@ use std::rt::Files;
 use std::{fs, io};
 
 fn as_text(path: &[u8]) -> io::Result<&str> {
-    match str::from_utf8(path) {
-        Ok(text) => Ok(text),
-        Err(_) => Err(io::Error::from(ErrorKind::InvalidFilename)),
-    }
+    str::from_utf8(path).map_err(|_| io::Error::from(ErrorKind::InvalidFilename))
 }
 
 // For reading.

@@ -1,69 +1,67 @@
 // A channel's file at the end: all of it handed to the system, and read back.
 use crate::opening::open;
-use crate::within;
 use desk::Saved;
 use input::read_full;
-use lines::{blame, hex, text, value};
+use lines::blame;
 use std::fs::OpenFile;
+use std::io;
 use std::rt::Files;
 
 // Files of fewer octets than this are looked at whole.
 const ROOM: usize = 65536;
 
+// What could not be done, and why.
+#[derive(Clone, Copy)]
+struct Failure {
+    what: &'static str,
+    why: io::Error,
+}
+
 // The octets read back, against what was written.
 fn compared(rt: &impl Print, octets: &[u8], s: Saved) -> bool {
     if ROOM <= octets.len() {
-        text(rt, b" check=none");
+        let _ = print!(rt; " check=none");
         return !s.failed;
     }
-    hex(rt, b" check=", crc::syndrome(octets) as u64, 4);
-    if s.failed {
-        return false;
-    }
-    octets.len() as u64 == s.octets
-}
-
-fn read_back(rt: &(impl Files + Print), err: &impl Print, path: &[u8], s: Saved) -> bool {
-    match open(rt, path) {
-        Ok(mut file) => {
-            let mut room = [0u8; ROOM];
-            let n = read_full(&mut file, &mut room);
-            compared(rt, &room[..n], s)
-        }
-        Err(why) => {
-            blame(err, b"cannot read back ", path, why);
-            false
-        }
-    }
+    let _ = print!(rt; " check={:04x}", crc::syndrome(octets));
+    !s.failed && octets.len() as u64 == s.octets
 }
 
 // Reads the channel's file back: whether all of the channel's packets are in it. std tells of no error of a close, so what such an
 // error would tell is asked for before: whether what was written can be stored.
 fn settled<R: Files + Print>(
     rt: &R,
+    file: &R::File,
+    path: &[u8],
+    s: Saved,
+) -> Result<bool, Failure> {
+    file.sync_data().map_err(|why| Failure {
+        what: "cannot close ",
+        why,
+    })?;
+    let mut back = open(rt, path).map_err(|why| Failure {
+        what: "cannot read back ",
+        why,
+    })?;
+    let mut room = [0u8; ROOM];
+    let n = read_full(&mut back, &mut room);
+    Ok(compared(rt, &room[..n], s))
+}
+
+// Ends the channel's line but for the last word of it, which is what this answers.
+pub fn finished<R: Files + Print>(
+    rt: &R,
     err: &impl Print,
     file: &R::File,
     path: &[u8],
     s: Saved,
 ) -> bool {
-    value(rt, b" octets=", s.octets);
-    match file.sync_data() {
-        Ok(()) => read_back(rt, err, path, s),
-        Err(why) => {
-            blame(err, b"cannot close ", path, why);
+    let _ = print!(rt; " octets={}", s.octets);
+    match settled(rt, file, path, s) {
+        Ok(saved) => saved,
+        Err(failure) => {
+            blame(err, failure.what, path, failure.why);
             false
         }
     }
-}
-
-pub fn finished<R: Files + Print>(
-    rt: &R,
-    err: &impl Print,
-    file: &R::File,
-    out: &[u8],
-    m: usize,
-    s: Saved,
-) -> bool {
-    let k = within(m, out.len());
-    settled(rt, err, file, &out[0..k], s)
 }

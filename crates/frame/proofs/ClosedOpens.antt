@@ -1,6 +1,6 @@
 -- A frame that closing makes around a data field passes every test of opening and gives back what it was made of, or is refused by test 12.
 -- Assumes nothing.
-use Rattle.std.proofs.Common.{◌≡◌, ℕ, ◌+◌, ◌/◌, ◌%◌, ◌^◌, ◌<◌, ◌≤◌, Bool, true, false, eqb, List, [], ◌∷◌, ◌++◌, length, take, drop, sym, refl, ap, ◌∙◌, inl, inr, append_assoc, mod-eq_of_lt, arith, length-append, take_at, drop_at, eq-eqb}
+use Rattle.std.proofs.Common.{◌≡◌, ℕ, ◌+◌, ◌/◌, ◌%◌, ◌^◌, ◌<◌, ◌≤◌, Bool, true, false, eqb, List, [], ◌∷◌, ◌++◌, length, take, drop, sym, refl, ap, ◌∙◌, inl, inr, append_assoc, mod-eq_of_lt, arith, length-append, take_at, drop_at, eq-eqb, Option, Some, None, Ok, Err}
 use Rattle.crc.specs.Register.{syndrome_of}
 use Rattle.crc.proofs.Laws.{own_field, in_16_bits}
 use Rattle.octets.specs.Layout.{value_in, width_among}
@@ -9,11 +9,9 @@ use Rattle.octets.specs.Pick.{pick}
 use Rattle.octets.proofs.Layouts.{reads_back}
 use Rattle.octets.proofs.Runs.{length_octets, number_back}
 use Rattle.frame.specs.declared.closing.ControlWord.{ControlWord}
-use Rattle.frame.specs.declared.closing.ControlWord.TheVariants.{Absent, Present}
 use Rattle.frame.specs.declared.counts.ChannelCount.{ChannelCount}
 use Rattle.frame.specs.declared.counts.MasterCount.{MasterCount}
 use Rattle.frame.specs.declared.header.Header.{Header}
-use Rattle.frame.specs.declared.opening.Opened.TheVariants.{Refused, Accepted}
 use Rattle.frame.specs.declared.opening.Refusal.TheVariants.{PointerPlace}
 use Rattle.frame.specs.declared.set_up.SetUp.{SetUp}
 use Rattle.frame.specs.Answers.{bit}
@@ -93,11 +91,11 @@ check_part u f true e = (octets_of 2 (syndrome_of f), rw e, length_octets 2 (syn
 check_part u f false e = ([], rw e, refl)
 
 -- the control word is read back from its octets
-word_back : (w : ControlWord) (h : Header) (f r : List ℕ) (end : ℕ) → h.flagged ≡ flagged_by w → word_number w < 2 ^ 32 → length f ≡ end
+word_back : (w : Option ControlWord) (h : Header) (f r : List ℕ) (end : ℕ) → h.flagged ≡ flagged_by w → word_number w < 2 ^ 32 → length f ≡ end
     → word_number w ≡ word_of h (f ++ word_octets w ++ r) end
 unfolding word_of word_octets flagged_by
-word_back Absent h f r end e b l = rw e
-word_back (Present v) h f r end e b l = rw e (sym (number_back f r end 4 v l b))
+word_back None h f r end e b l = rw e
+word_back (Some v) h f r end e b l = rw e (sym (number_back f r end 4 v.0 l b))
 
 -- a pointer that a frame may carry has 11 bits
 pub pointer_lt : (p D : ℕ) → D ≤ 2042 → Points p D → p < 2048
@@ -105,7 +103,7 @@ pointer_lt p D l (inl a) = omega arith
 pointer_lt p D l (inr (inl a)) = omega arith
 pointer_lt p D l (inr (inr a)) = omega arith
 
-module _ (u : SetUp) (channel : ℕ) (m : MasterCount) (k : ChannelCount) (w : ControlWord) (p : ℕ) (field : List ℕ)
+module _ (u : SetUp) (channel : ℕ) (m : MasterCount) (k : ChannelCount) (w : Option ControlWord) (p : ℕ) (field : List ℕ)
     (hf : length field ≡ close_size u w) where
   -- the parts of the frame
   parts : (c : List ℕ)
@@ -154,7 +152,7 @@ module _ (u : SetUp) (channel : ℕ) (m : MasterCount) (k : ChannelCount) (w : C
     -- a pointer that test 12 lets pass, and one that it does not
     pub around_opens : word_number w < 2 ^ 32 → Points p (close_size u w)
         → open_of u (frame_around u channel m k w p field)
-        ≡ Accepted (record {
+        ≡ Ok (record {
           header = closed_header u.spacecraft channel (flagged_by w) m k p;
           word = word_number w;
           place = 6;
@@ -174,7 +172,7 @@ module _ (u : SetUp) (channel : ℕ) (m : MasterCount) (k : ChannelCount) (w : C
         right_frame u f g 0 D around_header refl refl s.least refl ((row12_exactly g D).1.1 (λ s. hp)) (word_number w) ew
         ∙ around_six)
 
-    pub around_refused : (Points p (close_size u w) → ⊥) → open_of u (frame_around u channel m k w p field) ≡ Refused PointerPlace
+    pub around_refused : (Points p (close_size u w) → ⊥) → open_of u (frame_around u channel m k w p field) ≡ Err PointerPlace
     unfolding row11 secondary_size close_size
     around_refused hp =
         let D = close_size u w in

@@ -1,6 +1,7 @@
 -- What closing writes: the header as three numbers of 16 bits, the check behind a run, and the frame around a data field.
 -- Assumes nothing.
-use Rattle.std.proofs.Common.{◌≡◌, ℕ, ◌+◌, ◌-◌, ◌*◌, ◌%◌, ◌<◌, ◌≤◌, Bool, true, false, List, [], ◌∷◌, ◌++◌, length, take, drop, sym, refl, ap, ◌∙◌, ap₂, mod-eq_of_lt, arith, length-append, length-drop, take_at}
+use Rattle.std.proofs.Common.{is_some, ◌≡◌, ℕ, ◌+◌, ◌-◌, ◌*◌, ◌%◌, ◌<◌, ◌≤◌, Bool, true, false, List, [], ◌∷◌, ◌++◌, length, take, drop, sym, refl, ap, ◌∙◌, ap₂, mod-eq_of_lt, arith, length-append, length-drop, take_at, Option, Some, None}
+use Rattle.std.specs.Int.{from_bool}
 use native.Mathlib.Nat.{mod-mod}
 use Rattle.crc.specs.Register.{syndrome_of}
 use Rattle.octets.specs.Laid.{laid}
@@ -13,7 +14,6 @@ use Rattle.octets.proofs.Layouts.{laid_out_octets, laid_out_length}
 use Rattle.octets.proofs.OctetLaws.{no_octets, octets_append as octets_both}
 use Rattle.octets.proofs.Runs.{laid_behind, laid_around, laid_last, length_octets, octets_append, octets_lt}
 use Rattle.frame.specs.declared.closing.ControlWord.{ControlWord}
-use Rattle.frame.specs.declared.closing.ControlWord.TheVariants.{Absent, Present}
 use Rattle.frame.specs.declared.counts.ChannelCount.{ChannelCount}
 use Rattle.frame.specs.declared.counts.MasterCount.{MasterCount}
 use Rattle.frame.specs.declared.set_up.SetUp.{SetUp}
@@ -90,17 +90,28 @@ checked_behind u f t true e h = rw e (ap (λ (l : List ℕ). l ++ octets_of 2 (s
 checked_behind u f [] false e h = rw e
 checked_behind u f (x ∷ t) false e h = absurd (omega arith)
 
+-- the flag says whether there is one
+pub flagged_by_some : (w : Option ControlWord) → is_some w ≡ flagged_by w
+unfolding flagged_by
+flagged_by_some None = refl
+flagged_by_some (Some w) = refl
+
+-- a flag as a number, in the code and in the layout
+pub from_bool_bit : (b : Bool) → from_bool b ≡ bit b
+from_bool_bit true = refl
+from_bool_bit false = refl
+
 -- the octets of a control word
-pub word_length : (w : ControlWord) → length (word_octets w) ≡ pick (flagged_by w) 4 0
+pub word_length : (w : Option ControlWord) → length (word_octets w) ≡ pick (flagged_by w) 4 0
 unfolding word_octets flagged_by
-word_length Absent = refl
-word_length (Present v) = length_octets 4 v
+word_length None = refl
+word_length (Some v) = length_octets 4 v.0
 
 -- a frame around octets has octets
-word_octets_lem : (w : ControlWord) → Octets (word_octets w)
+word_octets_lem : (w : Option ControlWord) → Octets (word_octets w)
 unfolding word_octets
-word_octets_lem Absent = no_octets
-word_octets_lem (Present v) = octets_lt 4 v
+word_octets_lem None = no_octets
+word_octets_lem (Some v) = octets_lt 4 v.0
 
 check_octets : (b : Bool) (n : ℕ) → Octets (pick b (octets_of 2 n) [])
 check_octets true n = octets_lt 2 n
@@ -126,7 +137,7 @@ sizes u w e =
     record { full = omega arith; least = omega arith; most = omega arith }
 
 -- the header, the word and the check written into the output make the frame
-module _ (u : SetUp) (channel : ℕ) (m : MasterCount) (k : ChannelCount) (w : ControlWord) (p : ℕ) (out o₁ o₂ o₃ : List ℕ) (at : ℕ) where
+module _ (u : SetUp) (channel : ℕ) (m : MasterCount) (k : ChannelCount) (w : Option ControlWord) (p : ℕ) (out o₁ o₂ o₃ : List ℕ) (at : ℕ) where
   pub frame_written_lem : fits_of u ≡ true → length out ≡ u.length → at + length (word_octets w) + pick u.error_control 2 0 ≡ u.length
       → o₁ ≡ laid out 0 (header_octets u channel m k (flagged_by w) p) → o₂ ≡ laid o₁ at (word_octets w) → o₃ ≡ checked_output u o₂
       → o₃ ≡ frame_around u channel m k w p (field_in u w out)

@@ -1,6 +1,6 @@
 -- A frame that opens, with no secondary header and synchronisation flag 0, is the frame that closing makes of what it gave.
 -- Assumes nothing.
-use Rattle.std.proofs.Common.{◌≡◌, ℕ, zero, suc, ◌+◌, ◌/◌, ◌%◌, ◌<◌, ◌≤◌, Bool, true, false, eqb, List, ◌++◌, length, take, drop, sym, refl, ap, ◌∙◌, append-nil, arith, length-drop, take-append-drop, take_all, take-add}
+use Rattle.std.proofs.Common.{◌≡◌, ℕ, zero, suc, ◌+◌, ◌/◌, ◌%◌, ◌<◌, ◌≤◌, Bool, true, false, eqb, List, ◌++◌, length, take, drop, sym, refl, ap, ◌∙◌, append-nil, arith, length-drop, take-append-drop, take_all, take-add, Some, None}
 use Rattle.crc.specs.Register.{syndrome_of}
 use Rattle.crc.proofs.Laws.{own_field}
 use Rattle.octets.specs.Layout.{width_among, value_in, laid_out}
@@ -9,7 +9,6 @@ use Rattle.octets.specs.Octets.{Octets}
 use Rattle.octets.specs.Pick.{pick}
 use Rattle.octets.proofs.Layouts.{value_lt, writes_back}
 use Rattle.octets.proofs.Runs.{number_lt, octets_at}
-use Rattle.frame.specs.declared.closing.ControlWord.TheVariants.{Absent, Present}
 use Rattle.frame.specs.declared.header.Header.{Header}
 use Rattle.frame.specs.declared.set_up.SetUp.{SetUp}
 use Rattle.frame.specs.Answers.{bit}
@@ -56,7 +55,7 @@ module _ (u : SetUp) (f : List ℕ) (ver : version_of f ≡ 0) (craft : (header_
 
 -- the control word
 pub word_again : (h : Header) (f : List ℕ) (end : ℕ) (b : Bool) → h.flagged ≡ b → Octets f → end + pick b 4 0 ≤ length f
-    → word_octets (pick b (Present (word_of h f end)) Absent) ≡ take (pick b 4 0) (drop end f)
+    → word_octets (pick b (Some (record { 0 = word_of h f end })) None) ≡ take (pick b 4 0) (drop end f)
 unfolding word_octets word_of
 word_again h f end true e o l = rw e (octets_at 4 f end o l)
 word_again h f end false e o l = refl

@@ -1,9 +1,8 @@
 -- The table of refusals walked in the order of the code: what each test decides.
 -- Assumes nothing.
-use Rattle.std.proofs.Common.{◌≡◌, ℕ, ◌+◌, ◌<◌, ◌≤◌, Bool, true, false, List, [], ◌∷◌, length, arith, le-ltb, lt-ltb, eq-eqb, ne_eqb}
+use Rattle.std.proofs.Common.{◌≡◌, ℕ, ◌+◌, ◌<◌, ◌≤◌, Bool, true, false, List, [], ◌∷◌, length, arith, le-ltb, lt-ltb, eq-eqb, ne_eqb, Ok, Err}
 use Rattle.octets.specs.Pick.{pick}
 use Rattle.frame.specs.declared.header.Header.{Header}
-use Rattle.frame.specs.declared.opening.Opened.TheVariants.{Refused, Accepted}
 use Rattle.frame.specs.declared.opening.Refusal.TheVariants.{SetUpRange, FrameLength, FrameCheck, FrameVersion, OtherSpacecraft, SecondaryHeader, NoData, OrderOrSegment, PointerPlace}
 use Rattle.frame.specs.declared.set_up.SetUp.{SetUp}
 use Rattle.frame.specs.Header.{header_of}
@@ -13,17 +12,17 @@ use Rattle.frame.specs.SetUp.{fits_of}
 use Rattle.table.specs.Table.{row, first_cause}
 
 -- row 1
-pub outside : (u : SetUp) (f : List ℕ) → fits_of u ≡ false → Refused SetUpRange ≡ open_of u f
+pub outside : (u : SetUp) (f : List ℕ) → fits_of u ≡ false → Err SetUpRange ≡ open_of u f
 unfolding open_of open_table first_cause row1
 outside u f a = rw a
 
 -- rows 5 and 6, of a set-up that fits
 module _ (u : SetUp) (f : List ℕ) (a : fits_of u ≡ true) where
-  pub wrong_length : (length f ≡ u.length → ⊥) → Refused FrameLength ≡ open_of u f
+  pub wrong_length : (length f ≡ u.length → ⊥) → Err FrameLength ≡ open_of u f
   unfolding open_of open_table frame_table first_cause row1 row5
   wrong_length b = rw (a, ne_eqb (length f) u.length b)
 
-  pub failed_check : length f ≡ u.length → row6 u f ≡ true → Refused FrameCheck ≡ open_of u f
+  pub failed_check : length f ≡ u.length → row6 u f ≡ true → Err FrameCheck ≡ open_of u f
   unfolding open_of open_table frame_table first_cause row1 row5
   failed_check b c = rw (a, eq-eqb (length f) u.length b, c)
 
@@ -32,16 +31,16 @@ module _ (u : SetUp) (f : List ℕ) (a : fits_of u ≡ true) where
   checked b c = rw (a, eq-eqb (length f) u.length b, c)
 
 -- rows 7 to 9
-pub wrong_version : (u : SetUp) (f : List ℕ) → row7 f ≡ true → Refused FrameVersion ≡ open_from 3 u f
+pub wrong_version : (u : SetUp) (f : List ℕ) → row7 f ≡ true → Err FrameVersion ≡ open_from 3 u f
 unfolding open_from open_table frame_table first_cause
 wrong_version u f a = rw a
 
 module _ (u : SetUp) (f : List ℕ) (h : Header) (e : h ≡ header_of f) (a : row7 f ≡ false) where
-  pub wrong_spacecraft : (h.spacecraft ≡ u.spacecraft → ⊥) → Refused OtherSpacecraft ≡ open_from 3 u f
+  pub wrong_spacecraft : (h.spacecraft ≡ u.spacecraft → ⊥) → Err OtherSpacecraft ≡ open_from 3 u f
   unfolding open_from open_table frame_table first_cause row8
   wrong_spacecraft b = rw (a, ← e, ne_eqb h.spacecraft u.spacecraft b)
 
-  pub wrong_secondary : h.spacecraft ≡ u.spacecraft → row9 h f ≡ true → Refused SecondaryHeader ≡ open_from 3 u f
+  pub wrong_secondary : h.spacecraft ≡ u.spacecraft → row9 h f ≡ true → Err SecondaryHeader ≡ open_from 3 u f
   unfolding open_from open_table frame_table first_cause row8
   wrong_secondary b c = rw (a, ← e, eq-eqb h.spacecraft u.spacecraft b, c)
 
@@ -52,25 +51,25 @@ module _ (u : SetUp) (f : List ℕ) (h : Header) (e : h ≡ header_of f) (a : ro
 -- rows 10 to 12
 module _ (u : SetUp) (f : List ℕ) (h : Header) (s D : ℕ) (e : h ≡ header_of f) (es : s ≡ secondary_size h f) (e_d : D ≡ data_size u s h.flagged) where
   from_six : open_from 6 u f ≡ first_cause (row NoData (row10 D) ∷ row OrderOrSegment (row11 h) ∷ row PointerPlace (row12 h D) ∷ [])
-      Refused (Accepted (record { header = h; word = word_of h f (data_place s + D); place = data_place s; size = D }))
+      Err (Ok (record { header = h; word = word_of h f (data_place s + D); place = data_place s; size = D }))
   unfolding open_from open_table frame_table frame_of
   from_six = rw (e_d, es, e)
 
-  pub no_data : D < 1 → Refused NoData ≡ open_from 6 u f
+  pub no_data : D < 1 → Err NoData ≡ open_from 6 u f
   unfolding first_cause row10
   no_data a = rw (from_six, lt-ltb D 1 a)
 
   module _ (a : 1 ≤ D) where
-    pub wrong_order : row11 h ≡ true → Refused OrderOrSegment ≡ open_from 6 u f
+    pub wrong_order : row11 h ≡ true → Err OrderOrSegment ≡ open_from 6 u f
     unfolding first_cause row10
     wrong_order b = rw (from_six, le-ltb D 1 a, b)
 
-    pub wrong_pointer : row11 h ≡ false → row12 h D ≡ true → Refused PointerPlace ≡ open_from 6 u f
+    pub wrong_pointer : row11 h ≡ false → row12 h D ≡ true → Err PointerPlace ≡ open_from 6 u f
     unfolding first_cause row10
     wrong_pointer b c = rw (from_six, le-ltb D 1 a, b, c)
 
     pub right_frame : row11 h ≡ false → row12 h D ≡ false → (w : ℕ) → w ≡ word_of h f (data_place s + D)
-        → Accepted (record { header = h; word = w; place = data_place s; size = D }) ≡ open_from 6 u f
+        → Ok (record { header = h; word = w; place = data_place s; size = D }) ≡ open_from 6 u f
     unfolding first_cause row10
     right_frame b c w ew = rw (from_six, le-ltb D 1 a, b, c, ew)
 

@@ -1,27 +1,16 @@
--- What decides row 12, and what rows 6, 9, 11 and 12 say where they pass.
+-- What decides row 12, and what rows 6, 9 and 11 say where they pass.
 -- Assumes nothing.
-use Rattle.std.proofs.Common.{◌≡◌, ℕ, ◌+◌, ◌<◌, ◌≤◌, Bool, true, false, not, ◌&&◌, ◌||◌, eqb, ltb, ◌⊎◌, ◌↔◌, List, sym, refl, inl, inr, arith, ltb-true, le-ltb, lt-ltb, eq-eqb, ne_eqb, eqb-true}
+use Rattle.std.proofs.Common.{◌≡◌, ℕ, ◌+◌, Bool, true, false, not, ◌&&◌, ◌||◌, eqb, ltb, ◌⊎◌, ◌↔◌, List, sym, refl, inl, inr, arith, ltb-true, lt-ltb, eq-eqb, eqb-true}
 use borrow.Author.Tests.{not-false}
 use Rattle.crc.specs.Register.{syndrome_of}
 use Rattle.octets.specs.Layout.{value_in}
-use Rattle.octets.specs.Numbers.{number_at}
 use Rattle.frame.specs.Header.{secondary_header, length_less_one}
 use Rattle.frame.specs.declared.header.Header.{Header}
 use Rattle.frame.specs.declared.set_up.SetUp.{SetUp}
-use Rattle.frame.specs.Opening.{row6, row9, row11, row12, secondary_version, secondary_size, word_of, idle_data, none_starts}
+use Rattle.frame.specs.Opening.{row6, row9, row11, row12, secondary_version, secondary_size, idle_data, none_starts}
 use Rattle.frame.specs.Theorems.{Points, Row12Exactly}
 
--- row 6 is tested where error control is set up
-module _ (u : SetUp) (f : List ℕ) where
-  pub row6_tested : (s : ℕ) → u.error_control ≡ true → s ≡ syndrome_of f → not (eqb s 0) ≡ row6 u f
-  unfolding row6
-  row6_tested s h e = rw (h, e)
-
-  pub row6_passed : u.error_control ≡ false → false ≡ row6 u f
-  unfolding row6
-  row6_passed h = rw h
-
--- row 9, the secondary header's size and the control word, each where its flag says that it is there and where not
+-- row 9 and the secondary header's size, each where its flag says that it is there and where not
 module _ (h : Header) (f : List ℕ) where
   pub row9_tested : (v : ℕ) → h.secondary ≡ true → v ≡ secondary_version f → not (eqb v 0) ≡ row9 h f
   unfolding row9
@@ -38,30 +27,6 @@ module _ (h : Header) (f : List ℕ) where
   pub size_none : h.secondary ≡ false → 0 ≡ secondary_size h f
   unfolding secondary_size
   size_none s = rw s
-
-  pub word_there : (end n : ℕ) → h.flagged ≡ true → n ≡ number_at f end 4 → n ≡ word_of h f end
-  unfolding word_of
-  word_there end n s e = rw (s, e)
-
-  pub word_none : (end : ℕ) → h.flagged ≡ false → 0 ≡ word_of h f end
-  unfolding word_of
-  word_none end s = rw s
-
-module _ (h : Header) (D : ℕ) (s : h.synchronisation ≡ false) where
-  -- a pointer below D passes
-  pub row12_below : h.pointer < D → false ≡ row12 h D
-  unfolding row12
-  row12_below p = rw (s, lt-ltb h.pointer D p)
-
-  -- so does that of idle data
-  pub row12_idle : D ≤ h.pointer → h.pointer ≡ idle_data → false ≡ row12 h D
-  unfolding row12
-  row12_idle p e = rw (s, le-ltb h.pointer D p, eq-eqb h.pointer idle_data e)
-
-  -- and of the others only the one that says that no packet starts
-  pub row12_other : D ≤ h.pointer → (h.pointer ≡ idle_data → ⊥) → not (eqb h.pointer none_starts) ≡ row12 h D
-  unfolding row12
-  row12_other p e = rw (s, le-ltb h.pointer D p, ne_eqb h.pointer idle_data e)
 
 -- a row of two tests that passes: where the first holds, the second does not
 second_passes : (a b : Bool) → a && b ≡ false → a ≡ true → b ≡ false

@@ -1,8 +1,7 @@
--- What `fits_of` says, and what decides it.
+-- What `fits_of` says.
 -- Assumes nothing.
-use Rattle.std.proofs.Common.{◌≡◌, ℕ, ◌<◌, ◌≤◌, Bool, true, false, ◌&&◌, leb, sym, refl, ◌∙◌, arith, le-leb, leb-true}
-use borrow.Author.Tests.{lt-leb, not-true, not-false}
-use Rattle.frame.specs.declared.set_up.SetUp.{SetUp}
+use Rattle.std.proofs.Common.{◌≡◌, ℕ, Bool, true, false, ◌&&◌, leb, sym, refl, ◌∙◌, arith, le-leb, leb-true}
+use borrow.Author.Tests.{not-true, not-false}
 use Rattle.frame.specs.Opening.{row1}
 use Rattle.frame.specs.SetUp.{fits_of}
 use Rattle.frame.specs.Theorems.{InRange, InRangeLaw, Row1Exactly, Row1Fits}
@@ -35,15 +34,3 @@ row1_exactly u = (λ e r. true_false (sym ((in_range u).1 r) ∙ (row1_fits u).0
     outside : (b : Bool) → fits_of u ≡ b → (InRange u → ⊥) → fits_of u ≡ false
     outside true e h = absurd (h ((in_range u).0 e))
     outside false e h = e
-
-pub fits_in_range : (u : SetUp) → 13 ≤ u.length → u.length ≤ 2048 → fits_of u ≡ leb u.spacecraft 1023
-unfolding fits_of
-fits_in_range u a b = rw (le-leb 13 u.length a, le-leb u.length 2048 b)
-
-pub too_short : (u : SetUp) → u.length < 13 → fits_of u ≡ false
-unfolding fits_of
-too_short u h = rw (lt-leb 13 u.length h)
-
-pub too_long : (u : SetUp) → 13 ≤ u.length → 2048 < u.length → fits_of u ≡ false
-unfolding fits_of
-too_long u a h = rw (le-leb 13 u.length a, lt-leb u.length 2048 h)

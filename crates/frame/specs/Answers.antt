@@ -1,11 +1,9 @@
 -- The paper's number and values for each case of the answers (01, "When the desk says no").
-use Rattle.std.specs.Prelude.{ℕ, Bool, List, [], ◌∷◌, ◌++◌, replicate}
+use Rattle.std.specs.Prelude.{ℕ, Bool, List, [], ◌∷◌, ◌++◌, replicate, Result, Ok, Err}
 use Rattle.octets.specs.Pick.{pick}
-use Rattle.frame.specs.declared.closing.Closed.{Closed}
 use Rattle.frame.specs.declared.closing.CloseRefusal.{CloseRefusal}
 use Rattle.frame.specs.declared.header.Header.{Header}
-use Rattle.frame.specs.declared.opening.Opened.{Opened}
-use Rattle.frame.specs.declared.opening.Opened.TheVariants.{Refused, Accepted}
+use Rattle.frame.specs.declared.opening.Frame.{Frame}
 use Rattle.frame.specs.declared.opening.Refusal.{Refusal}
 use Rattle.frame.specs.declared.opening.Refusal.TheVariants.{SetUpRange, FrameLength, FrameCheck, FrameVersion, OtherSpacecraft, SecondaryHeader, NoData, OrderOrSegment, PointerPlace}
 
@@ -39,11 +37,11 @@ header_values h =
 
 -- opening: the number (0: accepted), the header values, the control word, place and length of the data field;
 -- "A refusal returns its number [..] every other returned value is zero"
-unfoldable pub values_of : Opened → List ℕ
-values_of (Refused r) = number_of r ∷ replicate 13 0
-values_of (Accepted x) = 0 ∷ header_values x.header ++ (x.word ∷ x.place ∷ x.size ∷ [])
+unfoldable pub values_of : Result Frame Refusal → List ℕ
+values_of (Err r) = number_of r ∷ replicate 13 0
+values_of (Ok x) = 0 ∷ header_values x.header ++ (x.word ∷ x.place ∷ x.size ∷ [])
 
 -- closing: the number (0: written)
-unfoldable pub close_value_of : Closed → ℕ
-close_value_of (Closed.Refused r) = close_number_of r
-close_value_of Closed.Written = 0
+unfoldable pub close_value_of : Result (Unit {0}) CloseRefusal → ℕ
+close_value_of (Err r) = close_number_of r
+close_value_of (Ok _) = 0

@@ -1,15 +1,12 @@
 -- Closing a frame: the frame around a data field that lies in its place (01, "Writing one frame"; "Layouts").
-use Rattle.std.specs.Prelude.{ℕ, Bool, true, false, not, List, [], ◌∷◌, ◌++◌, length, take, drop, ◌==◌, nat_lt}
+use Rattle.std.specs.Prelude.{ℕ, Bool, true, false, not, List, [], ◌∷◌, ◌++◌, length, take, drop, ◌==◌, nat_lt, Option, Some, None, Result, Ok, Err}
 use Rattle.crc.specs.Register.{syndrome_of}
 use Rattle.octets.specs.Layout.{laid_out}
 use Rattle.octets.specs.Numbers.{octets_of}
 use Rattle.octets.specs.Pick.{pick}
-use Rattle.frame.specs.declared.closing.Closed.{Closed}
-use Rattle.frame.specs.declared.closing.Closed.TheVariants.{Refused, Written}
 use Rattle.frame.specs.declared.closing.CloseRefusal.{CloseRefusal}
 use Rattle.frame.specs.declared.closing.CloseRefusal.TheVariants.{SetUpRange, ChannelAbove, OutputLength}
 use Rattle.frame.specs.declared.closing.ControlWord.{ControlWord}
-use Rattle.frame.specs.declared.closing.ControlWord.TheVariants.{Absent, Present}
 use Rattle.frame.specs.declared.counts.ChannelCount.{ChannelCount}
 use Rattle.frame.specs.declared.counts.MasterCount.{MasterCount}
 use Rattle.frame.specs.declared.set_up.SetUp.{SetUp}
@@ -31,13 +28,13 @@ unfoldable pub close_table : SetUp → ℕ → List ℕ → List (Row CloseRefus
 close_table u channel out = row SetUpRange (row1 u) ∷ row ChannelAbove (row20 channel) ∷ row OutputLength (row25 u out) ∷ []
 
 -- "a control word or none"
-unfoldable pub flagged_by : ControlWord → Bool
-flagged_by Absent = false
-flagged_by (Present w) = true
+unfoldable pub flagged_by : Option ControlWord → Bool
+flagged_by None = false
+flagged_by (Some w) = true
 
-unfoldable pub word_octets : ControlWord → List ℕ
-word_octets Absent = []
-word_octets (Present w) = octets_of 4 w
+unfoldable pub word_octets : Option ControlWord → List ℕ
+word_octets None = []
+word_octets (Some w) = octets_of 4 w.0
 
 -- the value of each item of the header: "No secondary header; synchronisation and order flags 0, segment id 11"
 abbrev pub header_value : SetUp → ℕ → MasterCount → ChannelCount → Bool → ℕ → FrameItem → ℕ
@@ -58,7 +55,7 @@ unfoldable pub header_octets : SetUp → ℕ → MasterCount → ChannelCount �
 header_octets u channel master count flagged pointer = laid_out frame_header (header_value u channel master count flagged pointer)
 
 -- D, of a frame with no secondary header
-unfoldable pub close_size : SetUp → ControlWord → ℕ
+unfoldable pub close_size : SetUp → Option ControlWord → ℕ
 close_size u word = data_size u 0 (flagged_by word)
 
 -- error control, if set up: "over all octets before the field"
@@ -66,18 +63,18 @@ unfoldable pub with_check : SetUp → List ℕ → List ℕ
 with_check u f = f ++ pick u.error_control (octets_of 2 (syndrome_of f)) []
 
 -- the whole frame: header, data field, control word, check
-unfoldable pub frame_around : SetUp → ℕ → MasterCount → ChannelCount → ControlWord → ℕ → List ℕ → List ℕ
+unfoldable pub frame_around : SetUp → ℕ → MasterCount → ChannelCount → Option ControlWord → ℕ → List ℕ → List ℕ
 frame_around u channel master count word pointer field =
     with_check u (header_octets u channel master count (flagged_by word) pointer ++ field ++ word_octets word)
 
 -- the data field is what stands in its place in the output already
-unfoldable pub field_in : SetUp → ControlWord → List ℕ → List ℕ
+unfoldable pub field_in : SetUp → Option ControlWord → List ℕ → List ℕ
 field_in u word out = take (close_size u word) (drop 6 out)
 
 -- the answer, and what the output holds then: on a refusal what it held
-unfoldable pub close_of : SetUp → ℕ → List ℕ → Closed
-close_of u channel out = first_cause (close_table u channel out) Refused Written
+unfoldable pub close_of : SetUp → ℕ → List ℕ → Result (Unit {0}) CloseRefusal
+close_of u channel out = first_cause (close_table u channel out) Err (Ok tt)
 
-unfoldable pub output_of : SetUp → ℕ → MasterCount → ChannelCount → ControlWord → ℕ → List ℕ → List ℕ
+unfoldable pub output_of : SetUp → ℕ → MasterCount → ChannelCount → Option ControlWord → ℕ → List ℕ → List ℕ
 output_of u channel master count word pointer out =
     first_cause (close_table u channel out) (λ _. out) (frame_around u channel master count word pointer (field_in u word out))

@@ -1,13 +1,11 @@
 -- Opening a frame: rows 1 and 5 to 12 of the table (01, "When the desk says no"), and what an accepted frame gives (01, "Layouts").
-use Rattle.std.specs.Prelude.{ℕ, ◌+◌, ◌-◌, Bool, not, ◌&&◌, ◌||◌, List, [], ◌∷◌, length, ◌==◌, nat_lt}
+use Rattle.std.specs.Prelude.{ℕ, ◌+◌, ◌-◌, Bool, not, ◌&&◌, ◌||◌, List, [], ◌∷◌, length, ◌==◌, nat_lt, Result, Ok, Err}
 use Rattle.crc.specs.Register.{syndrome_of}
 use Rattle.octets.specs.Layout.{value_in}
 use Rattle.octets.specs.Numbers.{number_at}
 use Rattle.octets.specs.Pick.{pick}
 use Rattle.frame.specs.declared.header.Header.{Header}
 use Rattle.frame.specs.declared.opening.Frame.{Frame}
-use Rattle.frame.specs.declared.opening.Opened.{Opened}
-use Rattle.frame.specs.declared.opening.Opened.TheVariants.{Refused, Accepted}
 use Rattle.frame.specs.declared.opening.Refusal.{Refusal}
 use Rattle.frame.specs.declared.opening.Refusal.TheVariants.{SetUpRange, FrameLength, FrameCheck, FrameVersion, OtherSpacecraft, SecondaryHeader, NoData, OrderOrSegment, PointerPlace}
 use Rattle.frame.specs.declared.set_up.SetUp.{SetUp}
@@ -99,5 +97,5 @@ unfoldable pub open_table : SetUp → List ℕ → List (Row Refusal)
 open_table u f = row SetUpRange (row1 u) ∷ frame_table u f
 
 -- opening a frame: "the first cause found gives the number", else what the frame gives
-unfoldable pub open_of : SetUp → List ℕ → Opened
-open_of u f = first_cause (open_table u f) Refused (Accepted (frame_of u f))
+unfoldable pub open_of : SetUp → List ℕ → Result Frame Refusal
+open_of u f = first_cause (open_table u f) Err (Ok (frame_of u f))

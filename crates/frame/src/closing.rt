@@ -1,40 +1,27 @@
 ghost use Rattle.std.specs.Prelude.{◌≡◌};
 ghost use Rattle.frame.specs.Answers.{close_number_of};
 
-// A control word for the frame, or none.
+// A control word of a frame.
 #[derive(Clone, Copy)]
-pub enum ControlWord {
-    Absent,
-    Present(u32),
-}
+pub struct ControlWord(pub u32);
 
 impl ControlWord {
     pub const OCTETS: usize = 4;
 }
 
-// Why a frame is not closed.
+// Why a frame is not closed, by the paper's numbers.
 #[derive(Clone, Copy)]
 pub enum CloseRefusal {
-    SetUpRange,
-    ChannelAbove,
-    OutputLength,
+    SetUpRange = 1,
+    ChannelAbove = 20,
+    OutputLength = 25,
 }
 
 impl CloseRefusal {
-    // The paper's number.
+    // The paper's number, which is the case's own.
     pub fn number(self) -> u32
         ensures { result ≡ close_number_of self }
     {
-        match self {
-            CloseRefusal::SetUpRange => 1,
-            CloseRefusal::ChannelAbove => 20,
-            CloseRefusal::OutputLength => 25,
-        }
+        self as u32
     }
-}
-
-#[derive(Clone, Copy)]
-pub enum Closed {
-    Refused(CloseRefusal),
-    Written,
 }

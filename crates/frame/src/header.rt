@@ -12,7 +12,9 @@ pub struct Header {
     pub secondary: bool,
     pub synchronisation: bool,
     pub order: bool,
+    // A number, as the header has it: a private frame may have any of the four.
     pub segment: u8,
+    // A number with IDLE and NONE among them, and not an enum: `close` takes any number and writes its low 11 bits (`ClosedLow`).
     pub pointer: usize,
 }
 

@@ -8,8 +8,8 @@ mod header;
 mod opening;
 mod set_up;
 
-pub use closing::{CloseRefusal, Closed, ControlWord};
+pub use closing::{CloseRefusal, ControlWord};
 pub use counts::{ChannelCount, MasterCount};
 pub use header::Header;
-pub use opening::{Frame, Opened, Refusal, data_size};
+pub use opening::{Frame, Refusal, data_size};
 pub use set_up::SetUp;

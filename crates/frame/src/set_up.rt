@@ -19,15 +19,10 @@ impl SetUp {
     // Octets of the error control field, if it is set up.
     pub const CHECK: usize = 2;
 
+    #[tactic(auto, unfolding(crate::specs::SetUp::fits_of))]
     pub fn fits(self) -> bool
         ensures { result ≡ fits_of self }
     {
-        if self.length < SetUp::MIN {
-            return false;
-        }
-        if SetUp::MAX < self.length {
-            return false;
-        }
-        self.spacecraft <= SetUp::SPACECRAFT_MAX
+        (SetUp::MIN..=SetUp::MAX).contains(&self.length) && self.spacecraft <= SetUp::SPACECRAFT_MAX
     }
 }

@@ -5,9 +5,8 @@ ghost use Rattle.std.specs.Prelude.{◌≡◌, true, ◌++◌, ◌+◌, ◌-◌,
 ghost use Rattle.octets.specs.Laid.{laid};
 ghost use Rattle.packet.specs.Size.{format_most, least, size_of, source};
 ghost use Rattle.channel.specs.Rules.{state_follows};
-ghost use Rattle.frame.specs.Opening.{idle_data};
 ghost use Rattle.frame.specs.SetUp.{most_field, most_length};
-ghost use Rattle.walk.specs.Inside.{CutFits, Fit, course_by, held_by};
+ghost use Rattle.walk.specs.Inside.{CutFits, Ready, course_by, held_by};
 ghost use Rattle.walk.specs.Steps.{Did, hunted};
 ghost use Rattle.walk.specs.Walk.{ended, handed, no_tally, tallied, walk_of};
 
@@ -16,6 +15,15 @@ use frame::Header;
 use judging::{none_yet, plain};
 use packet::{Packet, Size};
 use walk::{Course, End, Ended, Tally, walk};
+
+// A frame's data field, with the pointer that its header has and the limit of a delivered packet: what is only read. The channel's part of
+// the store and the output are lent each by itself, as the paper has them, so that what the three must be (`Ready`) is asked in a clause and is no invariant here.
+#[derive(Clone, Copy)]
+pub struct Field<'a> {
+    pub octets: &'a [u8],
+    pub pointer: usize,
+    pub limit: usize,
+}
 
 // Holds the field's last k octets.
 fn hold(field: &[u8], k: usize, part: &mut [u8])
@@ -27,14 +35,14 @@ fn hold(field: &[u8], k: usize, part: &mut [u8])
 }
 
 // What the end of a walk over the field means for the channel; a cut packet's octets are held.
+#[tactic(auto, using(octets::proofs::Runs::laid_nil), unfolding(walk::specs::Inside::CutFits, walk::specs::Inside::course_by, walk::specs::Inside::held_by))]
 pub fn settle(field: &[u8], e: Ended, part: &mut [u8]) -> Course
     requires { CutFits e.end field.now part.old }
     ensures reports { result ≡ course_by e.tally e.end }
     ensures holds { part.new ≡ laid part.old 0 (held_by e.end field.now) }
 {
     let tally = e.tally;
-    let end = e.end;
-    match end {
+    match e.end {
         End::Foreign => plain(tally, State::Hunting, 1, 0),
         End::Exact => plain(tally, State::Gathering(0), 0, 0),
         End::Oversize(r) => plain(tally, State::Skipping(r), 0, 1),
@@ -46,16 +54,15 @@ pub fn settle(field: &[u8], e: Ended, part: &mut [u8]) -> Course
 }
 
 // Step 4.
-pub fn hunt(field: &[u8], pointer: usize, limit: usize, part: &mut [u8], out: &mut [u8]) -> Course
-    requires fit { Fit limit part.old field.now pointer out.old }
-    requires fact { pointer ≡ idle_data → ⊥ }
-    ensures { Did source (hunted source limit field.now pointer) result part.old part.new out.old out.new }
+pub fn hunt(field: Field, part: &mut [u8], out: &mut [u8]) -> Course
+    requires ready { Ready field.limit part.old field.octets.now field.pointer out.old }
+    ensures { Did source (hunted source field.entry.limit field.entry.octets.now field.entry.pointer) result part.old part.new out.old out.new }
 {
-    if pointer == Header::NONE {
+    if field.pointer == Header::NONE {
         return plain(none_yet(), State::Hunting, 0, 0);
     }
-    let e = walk(field, pointer, limit, out, none_yet());
-    settle(field, e, part)
+    let e = walk(field.octets, field.pointer, field.limit, out, none_yet());
+    settle(field.octets, e, part)
 }
 
 // Delivers, or counts if it is idle, a packet of `total` octets that began with the held ones and ends in the field.
@@ -66,9 +73,8 @@ fn finish(held: &[u8], field: &[u8], total: usize, out: &mut [u8]) -> Tally
 {
     if Packet::idle_across(held, field) {
         return Tally {
-            delivered: 0,
             idle: 1,
-            filled: 0,
+            ..none_yet()
         };
     }
     let k = held.len();
@@ -77,12 +83,13 @@ fn finish(held: &[u8], field: &[u8], total: usize, out: &mut [u8]) -> Tally
     octets::copy(out, k, &field[..rest]);
     Tally {
         delivered: 1,
-        idle: 0,
         filled: total,
+        ..none_yet()
     }
 }
 
 // Holds the whole field behind the k octets that are held already.
+#[tactic(auto, using(walk::proofs::GatherLaws::laid_more), unfolding(walk::specs::Inside::course_by))]
 fn hold_more(field: &[u8], k: usize, part: &mut [u8]) -> Course
     requires { k + length field.now ≤ length part.old }
     ensures reports { result ≡ course_by no_tally (End.Cut (k + length field.now)) }
@@ -93,32 +100,25 @@ fn hold_more(field: &[u8], k: usize, part: &mut [u8]) -> Course
 }
 
 // Step 5 from a packet under way, of which k octets are held and which is told to have `size`.
-pub fn gather(
-    field: &[u8],
-    k: usize,
-    size: Size,
-    limit: usize,
-    part: &mut [u8],
-    out: &mut [u8],
-) -> Course
-    requires part_len { (length part.old ≡ limit) × (most_length ≤ limit) × (limit ≤ format_most) × (1 ≤ length field.now) × (length field.now ≤ most_field) × (limit + most_length ≤ length out.old) }
-    requires k_value { (state_follows source limit part.old (State.Gathering k) ≡ true) × (size ≡ size_of (take k part.old ++ field.now)) }
-    ensures { Did source (ended (walk_of source limit (take k part.old ++ field.now))) result part.old part.new out.old out.new }
+pub fn gather(field: Field, k: usize, size: Size, part: &mut [u8], out: &mut [u8]) -> Course
+    requires room { (length part.old ≡ field.limit) × (most_length ≤ field.limit) × (field.limit ≤ format_most) × (1 ≤ length field.octets.now) × (length field.octets.now ≤ most_field) × (field.limit + most_length ≤ length out.old) }
+    requires held { (state_follows source field.limit part.old (State.Gathering k) ≡ true) × (size ≡ size_of (take k part.old ++ field.octets.now)) }
+    ensures { Did source (ended (walk_of source field.entry.limit (take k part.old ++ field.entry.octets.now))) result part.old part.new out.old out.new }
 {
-    let there = k + field.len();
+    let there = k + field.octets.len();
     match size {
         Size::Foreign => plain(none_yet(), State::Hunting, 1, 0),
-        Size::Wait => hold_more(field, k, part),
+        Size::Wait => hold_more(field.octets, k, part),
         Size::Total(total) => {
-            if !Packet::fits_within(total, limit) {
+            if !Packet::fits_within(total, field.limit) {
                 return plain(none_yet(), State::Skipping(total - there), 0, 1);
             }
             if there < total {
-                return hold_more(field, k, part);
+                return hold_more(field.octets, k, part);
             }
-            let t = finish(&part[..k], field, total, out);
-            let e = walk(field, total - k, limit, out, t);
-            settle(field, e, part)
+            let t = finish(&part[..k], field.octets, total, out);
+            let e = walk(field.octets, total - k, field.limit, out, t);
+            settle(field.octets, e, part)
         }
     }
 }

@@ -1,5 +1,5 @@
 -- What is proved of opening and closing over the boundary besides the functions' contracts. The proofs are in proofs/Laws.antt, under these names in lower case.
-use Rattle.std.specs.Prelude.{◌≡◌, List, [], ◌∷◌, ◌↔◌, ℕ, ◌^◌, ◌<◌, eqb, length, get_or, take, drop, replicate}
+use Rattle.std.specs.Prelude.{◌≡◌, List, [], ◌∷◌, ◌↔◌, ℕ, ◌^◌, ◌<◌, eqb, length, get_or, take, drop, replicate, Option, Result, Ok}
 use Rattle.octets.specs.Pick.{pick}
 use Rattle.frame.specs.Answers.{number_of as open_refusal, values_of as open_values, close_number_of}
 use Rattle.frame.specs.Closing.{close_size, close_table, field_in}
@@ -9,7 +9,7 @@ use Rattle.frame.specs.declared.closing.CloseRefusal.{CloseRefusal}
 use Rattle.frame.specs.declared.closing.ControlWord.{ControlWord}
 use Rattle.frame.specs.declared.counts.ChannelCount.{ChannelCount}
 use Rattle.frame.specs.declared.counts.MasterCount.{MasterCount}
-use Rattle.frame.specs.declared.opening.Opened.{Opened}
+use Rattle.frame.specs.declared.opening.Frame.{Frame}
 use Rattle.frame.specs.declared.opening.Refusal.{Refusal as OpenRefusal}
 use Rattle.frame.specs.declared.set_up.SetUp.{SetUp}
 use Rattle.table.specs.Table.{First, None}
@@ -19,7 +19,7 @@ use Rattle.host_frame.specs.Calls.{CloseCall, OpenCall}
 
 -- an opening's answer is 14 words, and the number that is returned is the first
 abbrev pub OpenWords : Type 0
-OpenWords = (o : Opened) → (length (open_values o) ≡ 14) × (get_or (open_values o) 0 0 ≡ open_number o)
+OpenWords = (o : Result Frame OpenRefusal) → (length (open_values o) ≡ 14) × (get_or (open_values o) 0 0 ≡ open_number o)
 
 -- opening: a number is given exactly when its cause holds and no earlier one does, and 0 exactly when no cause holds
 abbrev pub OpenReturns : Type 0
@@ -29,7 +29,7 @@ OpenReturns = (u : SetUp) (f answer : List ℕ) (r : ℕ) (answer' : List ℕ) �
 -- then the words are those of what the frame gives
 abbrev pub OpenAccepted : Type 0
 OpenAccepted = (u : SetUp) (f answer : List ℕ) (r : ℕ) (answer' : List ℕ) → OpenCall u f answer r answer' → r ≡ 0
-    → answer' ≡ laid_words answer (open_values (Opened.Accepted (frame_of u f)))
+    → answer' ≡ laid_words answer (open_values (Ok (frame_of u f)))
 
 -- on a refusal all but the number are zero
 abbrev pub OpenRefused : Type 0
@@ -38,13 +38,13 @@ OpenRefused = (u : SetUp) (f answer : List ℕ) (r : ℕ) (answer' : List ℕ) �
 
 -- closing: a number is given exactly when its cause holds and no earlier one does, and 0 exactly when no cause holds
 abbrev pub CloseReturns : Type 0
-CloseReturns = (u : SetUp) (channel : ℕ) (m : MasterCount) (c : ChannelCount) (w : ControlWord) (p : ℕ) (out : List ℕ) (r : ℕ) (out' : List ℕ)
+CloseReturns = (u : SetUp) (channel : ℕ) (m : MasterCount) (c : ChannelCount) (w : Option ControlWord) (p : ℕ) (out : List ℕ) (r : ℕ) (out' : List ℕ)
     → CloseCall u channel m c w p out r out'
     → ((x : CloseRefusal) → r ≡ close_number_of x ↔ First (close_table u channel out) x) × (r ≡ 0 ↔ None (close_table u channel out))
 
 -- a refused closing leaves the output
 abbrev pub CloseRefused : Type 0
-CloseRefused = (u : SetUp) (channel : ℕ) (m : MasterCount) (c : ChannelCount) (w : ControlWord) (p : ℕ) (out : List ℕ) (r : ℕ) (out' : List ℕ)
+CloseRefused = (u : SetUp) (channel : ℕ) (m : MasterCount) (c : ChannelCount) (w : Option ControlWord) (p : ℕ) (out : List ℕ) (r : ℕ) (out' : List ℕ)
     → CloseCall u channel m c w p out r out' → (r ≡ 0 → ⊥) → out' ≡ out
 
 -- a frame that was closed opens with the values given, around the data field that lay in the output: no secondary header, synchronisation

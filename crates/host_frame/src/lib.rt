@@ -1,44 +1,35 @@
-// The frame part, which is sold by itself: opening a frame, closing one, and the check.
+// The frame part, which is sold by itself: opening a frame, closing one, and the check. The parameters are those of the C interface.
 #![tactic(auto)]
 
-ghost use Rattle.std.specs.Prelude.{◌≡◌, ◌∷◌, replicate};
+ghost use Rattle.std.specs.Prelude.{◌≡◌, Ok};
 ghost use Rattle.crc.specs.Register.{syndrome_of};
-ghost use Rattle.frame.specs.Answers.{close_value_of, values_of};
-ghost use Rattle.frame.specs.declared.opening.Opened.TheVariants.{Accepted};
+ghost use Rattle.frame.specs.Answers.{values_of};
 ghost use Rattle.host_frame.specs.Answer.{FrameFits, OpenFits};
 ghost use Rattle.host.specs.Answer.{given_count, given_master, given_word, set_up_of};
 ghost use Rattle.host_frame.specs.Calls.{CloseCall, OpenCall};
 
-use frame::{ChannelCount, Closed, Frame, MasterCount, Opened};
-use host::{control_word, flag_word, lay, set_up};
+use frame::{ChannelCount, CloseRefusal, Frame, MasterCount, Refusal};
+use host::{control_word, flag_word, lay, refused_values, set_up};
 
-fn refused_opening(number: u32) -> [u32; 14]
-    ensures { result ≡ number ∷ replicate 13 0 }
-{
-    let mut values = [0u32; 14];
-    values[0] = number;
-    values
-}
-
-// Number 0, the header values in the order of read's answer, the control word, place and octets of the data field.
+// Number 0, the header values in the order of read's answer, the control word, place and octets of the data field. Written out, as read's are:
+// the ten header values stand behind one word here and behind two there, and arrays are not joined plainly.
+#[tactic(auto, unfolding(frame::specs::Answers::values_of))]
 fn frame_values(x: Frame) -> [u32; 14]
     requires { FrameFits x }
-    ensures { result ≡ values_of (Accepted x) }
+    ensures { result ≡ values_of (Ok x) }
 {
     let h = x.header;
-    let master = h.master;
-    let count = h.count;
     [
         0,
         h.spacecraft,
         h.channel as u32,
         flag_word(h.flagged),
-        master.0 as u32,
-        count.0 as u32,
+        u32::from(h.master.0),
+        u32::from(h.count.0),
         flag_word(h.secondary),
         flag_word(h.synchronisation),
         flag_word(h.order),
-        h.segment as u32,
+        u32::from(h.segment),
         h.pointer as u32,
         x.word,
         x.place as u32,
@@ -46,22 +37,14 @@ fn frame_values(x: Frame) -> [u32; 14]
     ]
 }
 
-fn open_values(o: Opened) -> [u32; 14]
-    requires { OpenFits o }
-    ensures { result ≡ values_of o }
+#[tactic(auto, unfolding(frame::specs::Answers::values_of))]
+fn open_values(opened: Result<Frame, Refusal>) -> [u32; 14]
+    requires { OpenFits opened }
+    ensures { result ≡ values_of opened }
 {
-    match o {
-        Opened::Refused(refusal) => refused_opening(refusal.number()),
-        Opened::Accepted(x) => frame_values(x),
-    }
-}
-
-fn close_number(c: Closed) -> u32
-    ensures { result ≡ close_value_of c }
-{
-    match c {
-        Closed::Refused(refusal) => refusal.number(),
-        Closed::Written => 0,
+    match opened {
+        Err(refusal) => refused_values(refusal.number()),
+        Ok(x) => frame_values(x),
     }
 }
 
@@ -83,6 +66,7 @@ pub fn scowdeck_open(
 }
 
 // Closes a frame around the data field, which lies in its place in the output already. Of the pointer its low 11 bits are written.
+#[tactic(auto, unfolding(frame::specs::Answers::close_value_of))]
 pub fn scowdeck_close(
     length: u32,
     spacecraft: u32,
@@ -110,12 +94,12 @@ pub fn scowdeck_close(
         pointer as usize,
         output,
     );
-    close_number(closed)
+    closed.err().map_or(0, CloseRefusal::number)
 }
 
 // The 16-bit syndrome of a run of octets.
 pub fn scowdeck_syndrome(octets: &[u8]) -> u32
     ensures { result ≡ syndrome_of octets.now }
 {
-    crc::syndrome(octets) as u32
+    u32::from(crc::syndrome(octets))
 }

@@ -1,5 +1,6 @@
 -- Every value that crosses the boundary fits its word.
 -- Assumes nothing.
+use Rattle.std.specs.Prelude.{Option, Result, Ok, Err}
 use mathlib.Core.Path.{◌≡◌, refl}
 use mathlib.Core.Bool.{Bool, true, false, not}
 use mathlib.Core.List.{List, ◌++◌}
@@ -30,14 +31,13 @@ use Rattle.reading.specs.Reading.{answer_of, channel_of, done_by, field_of, reco
 use Rattle.walk.specs.Steps.{agrees, broke, called_at, carries_none, disagreed, gap_for, gathered, hunted, resumed, skipped, steps_of}
 use Rattle.walk.specs.Walk.{Done, ended, ended_by, only, Walked, walk_of}
 use Rattle.octets.specs.Octets.{Octets}
-use Rattle.reading.specs.declared.Answer.{Answer}
-use Rattle.reading.specs.declared.Answer.TheVariants.{Refused, Accepted}
+use Rattle.reading.specs.declared.Refusal.{Refusal}
 use Rattle.reading.specs.declared.Report.{Report}
 use Rattle.walk.specs.declared.walking.End.{End}
 use Rattle.writing.proofs.Laws.{goes_on, refused_untouched, written_exactly}
 use Rattle.writing.proofs.WritingSteps.{passing}
 use Rattle.writing.specs.Writing.{answer_of as write_answer, next_of, next_place, write_table}
-use Rattle.writing.specs.declared.Answer.{Answer as Written}
+use Rattle.writing.specs.declared.Refusal.{Refusal as WriteRefusal}
 use Rattle.writing.specs.declared.Place.{Place}
 use Rattle.host_answers.specs.Answer.{Lays, ReportFits}
 use Rattle.host_words.specs.Words.{unpacked}
@@ -113,7 +113,7 @@ steps_single limit part field h c =
     (either gap (broke c.state anew) on (broke_single c.state anew (hunted_single limit part field h.pointer))
     (resumed_single limit part field h.pointer c.state))
 
-module _ (u : SetUp) (rec : Record) (store out f : List ℕ) (a : Report) (e : answer_of u rec store out f ≡ Accepted a) where
+module _ (u : SetUp) (rec : Record) (store out f : List ℕ) (a : Report) (e : answer_of u rec store out f ≡ Ok a) where
   -- what is told of an accepted frame fits
   report_fits : ReportFits a
   unfolding report_of
@@ -145,9 +145,9 @@ pub answer_lays : (u : SetUp) (words store out f : List ℕ) → Octets store �
     → Lays (answer_of u (unpacked words) store out f) (record_of u (unpacked words) store out f) words
 answer_lays u words store out f os of = go (answer_of u (unpacked words) store out f) refl
   where
-    go : (a : Answer) → answer_of u (unpacked words) store out f ≡ a → Lays a (record_of u (unpacked words) store out f) words
-    go (Refused r) e = tt
-    go (Accepted a) e =
+    go : (a : Result Report Refusal) → answer_of u (unpacked words) store out f ≡ a → Lays a (record_of u (unpacked words) store out f) words
+    go (Err r) e = tt
+    go (Ok a) e =
         let k = accepted_keeps source most source_roomy u (unpacked words) store out f a os of (eight_channels words) e in
         (report_fits u (unpacked words) store out f a e, numbers_fit (store_of u (unpacked words) store out f) (record_of u (unpacked words) store out f) k.eight k.follows, whole_words words store (followed u (unpacked words) store out f a e))
 
@@ -155,14 +155,14 @@ answer_lays u words store out f os of = go (answer_of u (unpacked words) store o
 abbrev PlaceFits : Place → Type 0
 PlaceFits p = (p.offset < 2 ^ 32) × (p.left_over < 2 ^ 32)
 
-pub next_fits : (u : SetUp) (channel : ℕ) (p : Place) (w : ControlWord) (run out : List ℕ) → p.offset < 2 ^ 32 → p.left_over < 2 ^ 32
+pub next_fits : (u : SetUp) (channel : ℕ) (p : Place) (w : Option ControlWord) (run out : List ℕ) → p.offset < 2 ^ 32 → p.left_over < 2 ^ 32
     → PlaceFits (next_of u channel p w run out)
 unfolding next_of
 next_fits u channel p w run out h k = go (write_answer u channel p run out) refl
   where
-    go : (a : Written) → write_answer u channel p run out ≡ a → PlaceFits (next_of u channel p w run out)
-    go (Written.Refused r) e = rw (refused_untouched u channel p w run out r e).0 (h, k)
-    go Written.Frame e =
+    go : (a : Result (Unit {0}) WriteRefusal) → write_answer u channel p run out ≡ a → PlaceFits (next_of u channel p w run out)
+    go (Err r) e = rw (refused_untouched u channel p w run out r e).0 (h, k)
+    go (Ok _) e =
         let none = (written_exactly u channel p run out).0 e in
         let g = goes_on u channel p w run out e in
         let n = (passing u channel p run out none).0.run_fits in

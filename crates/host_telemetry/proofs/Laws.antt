@@ -9,6 +9,7 @@ use borrow.Author.Tests.{not-false, eqb-true, eqb-false}
 use lib.Dec.{eqb}
 use lib.ListN.{length, get_or, set, take, drop}
 use lib.Seq.{get_or-set_same, get_or-set_other}
+use Rattle.std.specs.Prelude.{Result, Ok, Err}
 use Rattle.octets.specs.Pick.{pick}
 use Rattle.packet.specs.Size.{most, source}
 use Rattle.walk.proofs.SourceLaws.{source_roomy}
@@ -27,15 +28,13 @@ use Rattle.reading.proofs.Laws.{accepted_keeps, others_apart, refused_untouched}
 use Rattle.reading.proofs.ReadLaws.{at_record, found_none, leaves, opened, ready, refuses}
 use Rattle.reading.specs.Answers.{number_of, values_of as read_values}
 use Rattle.reading.specs.Reading.{answer_of as read_answer, done_by, record_after, record_of}
-use Rattle.reading.specs.declared.Answer.{Answer as ReadAnswer}
-use Rattle.reading.specs.declared.Answer.TheVariants.{Refused, Accepted}
 use Rattle.reading.specs.declared.Refusal.{Refusal}
 use Rattle.reading.specs.declared.Refusal.TheVariants.{OfFrame, StoreLength, OutputLength, BrokenRecord}
 use Rattle.reading.specs.declared.Report.{Report}
 use Rattle.writing.proofs.Laws.{refused_untouched as write_untouched}
 use Rattle.writing.specs.Answers.{values_of as write_values}
 use Rattle.writing.specs.Writing.{answer_of as write_answer}
-use Rattle.writing.specs.declared.Answer.{Answer as WriteAnswer}
+use Rattle.writing.specs.declared.Refusal.{Refusal as WriteRefusal}
 use Rattle.writing.specs.declared.Place.{Place}
 use Rattle.host.specs.Answer.{laid_words}
 use Rattle.host_answers.specs.Answer.{read_number}
@@ -51,12 +50,12 @@ pub odd_refused : OddRefused
 unfolding row1
 odd_refused u words store out f a b c o = go (record_follows source most store (unpacked words)) refl
   where
-    go : (t : Bool) → record_follows source most store (unpacked words) ≡ t → read_answer u (unpacked words) store out f ≡ Refused BrokenRecord
+    go : (t : Bool) → record_follows source most store (unpacked words) ≡ t → read_answer u (unpacked words) store out f ≡ Err BrokenRecord
     go true e = absurd (odd_breaks words store e o)
     go false e =
-        sym (refuses source most u (unpacked words) store out f BrokenRecord (record { answer = Refused BrokenRecord; after = unpacked words })
+        sym (refuses source most u (unpacked words) store out f BrokenRecord
         (at_record source most u (unpacked words) store out f (not-false (fits_of u) a) (not-false (store_fits most (length store)) b)
-        (not-false (output_fits most (length out)) c) e) refl).answers
+        (not-false (output_fits most (length out)) c) e)).answers
 
 -- every count in a record that words are, and in one that a reading leaves of it, is an octet
 counts_small : (words : List ℕ) (v : ℕ) → v < 8 → (get_or (unpacked words).channels v fresh_channel).last.0 < 256
@@ -75,7 +74,7 @@ set_small cs i v c k l h = go (eqb v i) refl
     go true e = let q = eqb-true v i e in rw (q, get_or-set_same cs i c fresh_channel (rw q at l)) k
     go false e = rw (get_or-set_other cs i v c fresh_channel (eqb-false v i e)) h
 
-module _ (u : SetUp) (rec : Record) (store out f : List ℕ) (a : Report) (e : read_answer u rec store out f ≡ Accepted a) where
+module _ (u : SetUp) (rec : Record) (store out f : List ℕ) (a : Report) (e : read_answer u rec store out f ≡ Ok a) where
   left_as : record_after (frame_of u f) rec (done_by source most (frame_of u f) rec store f) ≡ record_of u rec store out f
   left_as = (leaves source most u rec store out f (found_none source most u rec store out f a e)).record_left
 
@@ -95,10 +94,10 @@ module _ (u : SetUp) (rec : Record) (store out f : List ℕ) (a : Report) (e : r
 pub saved_unpacks : SavedUnpacks
 saved_unpacks u words store out f answer r words' store' out' answer' c = go (read_answer u (unpacked words) store out f) refl
   where
-    go : (a : ReadAnswer) → read_answer u (unpacked words) store out f ≡ a → unpacked words' ≡ record_of u (unpacked words) store out f
-    go (Refused x) e =
+    go : (a : Result Report Refusal) → read_answer u (unpacked words) store out f ≡ a → unpacked words' ≡ record_of u (unpacked words) store out f
+    go (Err x) e =
         ap unpacked (rw e at c.record_left) ∙ sym (refused_untouched source most u (unpacked words) store out f x e).same_record
-    go (Accepted a) e =
+    go (Ok a) e =
         let n = eight_channels words in
         ap unpacked (rw e at c.record_left)
         ∙ back (record_of u (unpacked words) store out f) (left_eight u (unpacked words) store out f a e n)
@@ -114,9 +113,9 @@ refused_not BrokenRecord e = omega arith
 pub saved_follows : SavedFollows
 saved_follows u words store out f answer r words' store' out' answer' os of c z = go (read_answer u (unpacked words) store out f) refl
   where
-    go : (a : ReadAnswer) → read_answer u (unpacked words) store out f ≡ a → record_follows source most store' (unpacked words') ≡ true
-    go (Refused x) e = absurd (refused_not x (sym (rw e at c.number) ∙ z))
-    go (Accepted a) e =
+    go : (a : Result Report Refusal) → read_answer u (unpacked words) store out f ≡ a → record_follows source most store' (unpacked words') ≡ true
+    go (Err x) e = absurd (refused_not x (sym (rw e at c.number) ∙ z))
+    go (Ok a) e =
         rw (saved_unpacks u words store out f answer r words' store' out' answer' c, c.store_left)
         (accepted_keeps source most source_roomy u (unpacked words) store out f a os of (eight_channels words) e).follows
 
@@ -136,35 +135,35 @@ others_keep u words store out f answer r words' store' out' answer' a w c e h n 
 pub read_refused : ReadRefused
 read_refused u words store out f answer r words' store' out' answer' c n = go (read_answer u (unpacked words) store out f) refl
   where
-    go : (a : ReadAnswer) → read_answer u (unpacked words) store out f ≡ a → (words' ≡ words) × (store' ≡ store) × (out' ≡ out)
-    go (Refused x) e =
+    go : (a : Result Report Refusal) → read_answer u (unpacked words) store out f ≡ a → (words' ≡ words) × (store' ≡ store) × (out' ≡ out)
+    go (Err x) e =
         let t = refused_untouched source most u (unpacked words) store out f x e in
         (rw e at c.record_left, c.store_left ∙ t.same_store, c.output_left ∙ t.same_output)
-    go (Accepted a) e = absurd (n (rw e at c.number))
+    go (Ok a) e = absurd (n (rw e at c.number))
 
 pub write_refused : WriteRefused
 write_refused u channel p w run out answer r out' answer' c n = go (write_answer u channel p run out) refl
   where
-    go : (a : WriteAnswer) → write_answer u channel p run out ≡ a
+    go : (a : Result (Unit {0}) WriteRefusal) → write_answer u channel p run out ≡ a
         → (out' ≡ out) × (answer' ≡ laid_words answer (write_values (write_answer u channel p run out) p))
-    go (WriteAnswer.Refused x) e =
+    go (Err x) e =
         let t = write_untouched u channel p w run out x e in
         (c.output_left ∙ t.1, c.answer_left ∙ ap (λ (q : Place). laid_words answer (write_values (write_answer u channel p run out) q)) t.0)
-    go WriteAnswer.Frame e = absurd (n (rw e at c.number))
+    go (Ok _) e = absurd (n (rw e at c.number))
 
-read_size : (a : ReadAnswer) → length (read_values a) ≡ 20
+read_size : (a : Result Report Refusal) → length (read_values a) ≡ 20
 unfolding read_values
-read_size (Refused r) = refl
-read_size (Accepted a) = refl
+read_size (Err r) = refl
+read_size (Ok a) = refl
 
 pub answer_sizes : AnswerSizes
 unfolding write_values
 answer_sizes = (read_size, λ a p. refl, λ cs. refl)
 
-read_first : (a : ReadAnswer) → get_or (read_values a) 0 0 ≡ read_number a
+read_first : (a : Result Report Refusal) → get_or (read_values a) 0 0 ≡ read_number a
 unfolding read_values
-read_first (Refused r) = refl
-read_first (Accepted a) = refl
+read_first (Err r) = refl
+read_first (Ok a) = refl
 
 pub number_first : NumberFirst
 unfolding write_values

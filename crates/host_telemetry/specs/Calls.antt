@@ -1,5 +1,5 @@
 -- What a call of reading, writing or the busy mask returns and leaves behind.
-use Rattle.std.specs.Prelude.{List, [], ◌∷◌, ◌≡◌, ℕ}
+use Rattle.std.specs.Prelude.{List, [], ◌∷◌, ◌≡◌, ℕ, Option}
 use Rattle.frame.specs.declared.closing.ControlWord.{ControlWord}
 use Rattle.frame.specs.declared.set_up.SetUp.{SetUp}
 use Rattle.channel.specs.Busy.{mask_of, count_of, lowest_of}
@@ -23,7 +23,7 @@ pub record ReadCall (u : SetUp) (words store out f answer : List ℕ) (r : ℕ) 
   pub answer_left : answer' ≡ laid_words answer (read_values (read_answer u (unpacked words) store out f))
 
 -- scowdeck_write: the writer's answer, and where the next call goes on; its 5 words are those of `write_values`
-pub record WriteCall (u : SetUp) (channel : ℕ) (p : Place) (w : ControlWord) (run out answer : List ℕ) (r : ℕ) (out' answer' : List ℕ) : Type 0 where
+pub record WriteCall (u : SetUp) (channel : ℕ) (p : Place) (w : Option ControlWord) (run out answer : List ℕ) (r : ℕ) (out' answer' : List ℕ) : Type 0 where
   pub number : r ≡ answer_number (write_answer u channel p run out)
   pub output_left : out' ≡ write_output u channel p w run out
   pub answer_left : answer' ≡ laid_words answer (write_values (write_answer u channel p run out) (next_of u channel p w run out))

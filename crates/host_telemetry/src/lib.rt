@@ -1,4 +1,4 @@
-// Telemetry: reading a frame into a saved record, writing one, and what a saved record is busy with.
+// Telemetry: reading a frame into a saved record, writing one, and what a saved record is busy with. The parameters are those of the C interface.
 #![tactic(auto)]
 
 ghost use Rattle.host_answers.specs.Answer.{given_place};
@@ -72,7 +72,7 @@ pub fn scowdeck_busy(words: &[u32], answer: &mut [u32]) -> u32
     ensures { BusyCall words.now answer.old result answer.new }
 {
     let rec = see(words);
-    let mask = rec.busy() as u32;
+    let mask = u32::from(rec.busy());
     let values = [mask, rec.busy_count(), rec.lowest_busy()];
     lay(answer, &values);
     mask

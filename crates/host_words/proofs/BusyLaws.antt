@@ -1,13 +1,12 @@
 -- The busy mask of words: bit by bit, and of words that were packed.
 -- Assumes nothing.
 use mathlib.Core.Path.{◌≡◌, refl, ◌∙◌, sym, ap}
-use mathlib.Core.Bool.{Bool, true, false, false≢true}
+use mathlib.Core.Bool.{Bool, true}
 use mathlib.Core.List.{List, [], ◌∷◌}
-use mathlib.Core.Logic.{◌⊎◌, inl, inr}
 use Prim.Native.Nat.{ℕ, suc, ◌+◌, ◌*◌, ◌/◌, ◌%◌, ◌^◌, ◌<◌}
 use native.Mathlib.Omega.{arith}
-use borrow.Author.Tests.{lt-ltb, ltb-true, eqb-true}
-use lib.Dec.{eqb, ltb}
+use borrow.Author.Tests.{lt-ltb}
+use lib.Dec.{ltb}
 use lib.ListN.{length, get_or}
 use lib.Seq.{get_or-drop}
 use Rattle.octets.specs.Pick.{pick}
@@ -17,49 +16,22 @@ use Rattle.channel.specs.State.{fresh_channel}
 use Rattle.channel.specs.declared.state.Channel.{Channel}
 use Rattle.channel.specs.declared.state.Record.{Record}
 use Rattle.channel.specs.declared.state.State.{State}
-use Rattle.channel.specs.declared.state.State.TheVariants.{Hunting, Gathering, Skipping}
 use Rattle.host_words.specs.Busy.{seen, seen_at, seen_state, state_at}
 use Rattle.host_words.specs.Theorems.{BusyAt, BusyExactly}
 use Rattle.host_words.specs.Words.{number_word, packed, packed_all, state_word}
 use Rattle.host_words.proofs.OwnLaws.{drop_packed, each_at}
 use Rattle.host_words.proofs.WordLaws.{length_packed}
 
--- a state's two words
-abbrev BusyWords : ℕ → ℕ → Type 0
-BusyWords state number = (state ≡ 2) ⊎ ((state ≡ 1) × (number ≡ 0 → ⊥))
+at_busy : (words : List ℕ) (v : ℕ) → busy_state (state_at words v) ≡ true → BusyAt words v
+unfolding state_at busy_state seen_state
+at_busy words v e = grind arith
 
-seen_busy : (state number : ℕ) → busy_state (seen_state state number) ≡ true → BusyWords state number
-unfolding seen_state busy_state
-seen_busy state number = go (eqb state 1) (eqb state 2) refl refl
-  where
-    go : (one two : Bool) → eqb state 1 ≡ one → eqb state 2 ≡ two
-        → busy_state (pick one (Gathering number) (pick two (Skipping number) Hunting)) ≡ true → BusyWords state number
-    go true two a b e = inr (eqb-true state 1 a, λ z. omega (arith, ltb-true 0 number e))
-    go false true a b e = inl (eqb-true state 2 b)
-    go false false a b e = absurd (false≢true e)
-
-busy_seen : (state number : ℕ) → BusyWords state number → busy_state (seen_state state number) ≡ true
-unfolding seen_state busy_state
-busy_seen state number (inl e) = rw e
-busy_seen state number (inr (e, n)) = rw e (lt-ltb 0 number (omega arith))
-
-module _ (words : List ℕ) (v : ℕ) where
-  at_busy : busy_state (state_at words v) ≡ true → BusyAt words v
-  unfolding state_at busy_state
-  at_busy = go (ltb (4 * v + 3) (length words)) refl
-    where
-      go : (b : Bool) → ltb (4 * v + 3) (length words) ≡ b
-          → busy_state (pick b (seen_state (get_or words (4 * v + 2) 0) (get_or words (4 * v + 3) 0)) Hunting) ≡ true → BusyAt words v
-      go true q e = (ltb-true (4 * v + 3) (length words) q, seen_busy (get_or words (4 * v + 2) 0) (get_or words (4 * v + 3) 0) e)
-      go false q e = absurd (false≢true e)
-
-  busy_at : BusyAt words v → busy_state (state_at words v) ≡ true
-  unfolding state_at
-  busy_at h = rw (lt-ltb (4 * v + 3) (length words) h.0) (busy_seen (get_or words (4 * v + 2) 0) (get_or words (4 * v + 3) 0) h.1)
+busy_at : (words : List ℕ) (v : ℕ) → BusyAt words v → busy_state (state_at words v) ≡ true
+unfolding state_at busy_state seen_state
+busy_at words v h = grind arith
 
 one_bit : (b : Bool) → ◌≡◌ {A = ℕ} (pick b 1 0) 1 → b ≡ true
-one_bit true e = refl
-one_bit false e = absurd (omega arith)
+one_bit b e = grind arith
 
 pub busy_exactly : BusyExactly
 unfolding seen
@@ -82,13 +54,11 @@ same_busy (c ∷ cs) [] v n h = absurd (omega arith)
 same_busy (c ∷ cs) (d ∷ ds) v n h =
     let r = same_busy cs ds (suc v) (omega arith) (λ i l. h (suc i) (omega arith)) in
     let e = ap busy_state (h 0 (omega arith)) in
-    (rw (e, r.0), rw (e, r.1), rw (e, r.2))
+    grind arith
 
 state_seen : (s : State) → seen_state (state_word s) (number_word s) ≡ s
 unfolding seen_state
-state_seen Hunting = refl
-state_seen (Gathering k) = refl
-state_seen (Skipping r) = refl
+state_seen s = grind arith
 
 packed_state : (cs : List Channel) (v : ℕ) → v < length cs → state_at (packed_all cs) v ≡ (get_or cs v fresh_channel).state
 unfolding state_at

@@ -1,139 +1,91 @@
 // A saved record's words: four for each channel, and what the busy mask reads of them.
 #![tactic(auto)]
 
-ghost use Rattle.std.specs.Prelude.{◌≡◌, ◌+◌, ◌≤◌, ◌<◌, ◌^◌, length, get_or};
-ghost use Rattle.octets.specs.Laid.{laid};
-ghost use Rattle.host_words.specs.Busy.{seen, seen_at, seen_state, state_at};
-ghost use Rattle.host_words.specs.Words.{NumbersFit, broken_channel, channel_at, number_word, packed, packed_channel, state_word, unpacked, unpacked_channel, unpacked_state};
+ghost use Rattle.std.specs.Prelude.{◌≡◌, [], get_or, ◌^◌, ◌<◌, length};
+ghost use Rattle.std.specs.Option.{unwrap_or};
+ghost use Rattle.channel.specs.declared.state.State.TheVariants.{Hunting};
+ghost use Rattle.host_words.specs.Busy.{seen, seen_at, seen_state};
+ghost use Rattle.host_words.specs.Words.{NumbersFit, broken_state, channel_at, number_word, packed, packed_channel, unpacked, unpacked_state};
 
 use channel::{Channel, Record, State};
-use frame::ChannelCount;
+use frame::{ChannelCount, Header};
 use host::flag_word;
+use std::array;
 
-// A saved record: four words for each channel.
-pub const WORDS: usize = 32;
+// The words of a channel: heard (0 or 1), last channel count, state, number.
+const CHANNEL_WORDS: usize = 4;
 
-// The word at a place, 0 past the end.
-fn word_at(words: &[u32], at: usize) -> u32
-    ensures { result ≡ get_or words.now at 0 }
+// A saved record: the channels' words, in order.
+pub const WORDS: usize = CHANNEL_WORDS * Header::CHANNELS;
+
+// A channel that breaks the rules of every channel: it stands for words that no channel has.
+const BROKEN: Channel = Channel {
+    heard: true,
+    last: ChannelCount(0),
+    state: State::Skipping(0),
+};
+
+// The state that two words name by the C interface's numbers, if they name one.
+#[tactic(auto, unfolding(crate::specs::Words::unpacked_state, crate::specs::Busy::seen_state))]
+fn named_state(state: u32, number: u32) -> Option<State>
+    ensures unpacked { unwrap_or result broken_state ≡ unpacked_state state number }
+    ensures seen { unwrap_or result Hunting ≡ seen_state state number }
 {
-    if at < words.len() { words[at] } else { 0 }
-}
-
-// A state that breaks the rules of every channel stands for words that no channel has.
-fn unpack_state(state: u32, number: u32) -> State
-    ensures { result ≡ unpacked_state state number }
-{
-    if state == 1 {
-        return State::Gathering(number as usize);
-    }
-    if state == 2 {
-        return State::Skipping(number as usize);
-    }
-    if state != 0 {
-        return State::Skipping(0);
-    }
-    if number != 0 {
-        return State::Skipping(0);
-    }
-    State::Hunting
-}
-
-fn broken() -> Channel
-    ensures { result ≡ broken_channel }
-{
-    Channel {
-        heard: true,
-        last: ChannelCount(0),
-        state: State::Skipping(0),
+    match (state, number) {
+        (0, 0) => Some(State::Hunting),
+        (1, k) => Some(State::Gathering(k as usize)),
+        (2, r) => Some(State::Skipping(r as usize)),
+        _ => None,
     }
 }
 
-fn unpack_channel(heard: u32, count: u32, state: u32, number: u32) -> Channel
-    ensures { result ≡ unpacked_channel heard count state number }
+#[tactic(auto, unfolding(crate::specs::Words::channel_at, crate::specs::Words::unpacked_channel))]
+fn unpack_channel(words: &[u32; CHANNEL_WORDS]) -> Channel
+    ensures { result ≡ channel_at words.now 0 }
 {
+    let [heard, count, state, number] = *words;
     if 1 < heard {
-        return broken();
+        return BROKEN;
     }
-    if 255 < count {
-        return broken();
-    }
-    let unpacked = unpack_state(state, number);
+    let Ok(count) = u8::try_from(count) else {
+        return BROKEN;
+    };
     Channel {
         heard: heard == 1,
-        last: ChannelCount(count as u8),
-        state: unpacked,
+        last: ChannelCount(count),
+        state: named_state(state, number).unwrap_or(BROKEN.state),
     }
-}
-
-fn channel_at(words: &[u32], v: usize) -> Channel
-    requires { v < 8 }
-    ensures { result ≡ channel_at words.now v }
-{
-    let at = 4 * v;
-    unpack_channel(
-        word_at(words, at),
-        word_at(words, at + 1),
-        word_at(words, at + 2),
-        word_at(words, at + 3),
-    )
 }
 
 // The record that the words are.
+#[tactic(auto, unfolding(crate::specs::Words::unpacked))]
 pub fn unpack(words: &[u32]) -> Record
     ensures { result ≡ unpacked words.now }
 {
     if words.len() != WORDS {
-        let none = broken();
         return Record {
-            channels: [none; 8],
+            channels: [BROKEN; Header::CHANNELS],
         };
     }
+    let (channels, _) = words.as_chunks();
     Record {
-        channels: [
-            channel_at(words, 0),
-            channel_at(words, 1),
-            channel_at(words, 2),
-            channel_at(words, 3),
-            channel_at(words, 4),
-            channel_at(words, 5),
-            channel_at(words, 6),
-            channel_at(words, 7),
-        ],
+        channels: array::from_fn(|v| unpack_channel(&channels[v])),
     }
 }
 
-fn state_word(state: State) -> u32
-    ensures { result ≡ state_word state }
+// With the C interface's numbers of the states.
+fn pack_channel(channel: Channel) -> [u32; CHANNEL_WORDS]
+    requires { number_word channel.state < 2 ^ 32 }
+    ensures { result ≡ packed_channel channel }
 {
-    match state {
-        State::Hunting => 0,
-        State::Gathering(_) => 1,
-        State::Skipping(_) => 2,
-    }
-}
-
-fn number_word(state: State) -> u32
-    requires { number_word state < 2 ^ 32 }
-    ensures { result ≡ number_word state }
-{
-    match state {
-        State::Hunting => 0,
-        State::Gathering(k) => k as u32,
-        State::Skipping(r) => r as u32,
-    }
-}
-
-fn put_channel(words: &mut [u32], at: usize, channel: Channel)
-    requires { (at + 4 ≤ length words.old) × (number_word channel.state < 2 ^ 32) }
-    ensures { words.new ≡ laid words.old at (packed_channel channel) }
-{
-    let last = channel.last;
-    let state = channel.state;
-    words[at] = flag_word(channel.heard);
-    words[at + 1] = last.0 as u32;
-    words[at + 2] = state_word(state);
-    words[at + 3] = number_word(state);
+    let heard = flag_word(channel.heard);
+    let count = u32::from(channel.last.0);
+    let (state, number) = match channel.state {
+        State::Hunting => (0, 0),
+        State::Gathering(k) => (1, k as u32),
+        State::Skipping(r) => (2, r as u32),
+    };
+    [heard, count, state, number]
 }
 
 // The record's words in the place of what the words were.
@@ -141,42 +93,19 @@ pub fn pack(rec: Record, words: &mut [u32])
     requires { (length words.old ≡ 32) × NumbersFit rec }
     ensures { words.new ≡ packed rec }
 {
-    let mut v = 0;
-    while v < 8 {
-        let channel = rec.channels[v];
-        put_channel(words, 4 * v, channel);
-        v += 1;
-    }
+    let packed = rec.channels.map(pack_channel);
+    words.copy_from_slice(packed.as_flattened());
 }
 
-fn seen_state(state: u32, number: u32) -> State
-    ensures { result ≡ seen_state state number }
+// The state that stands in the words of a channel, hunting where they are not all there, in a channel of which nothing else is meant.
+#[tactic(auto, unfolding(crate::specs::Busy::state_at))]
+fn see_channel(channels: &[[u32; CHANNEL_WORDS]], v: usize) -> Channel
+    ensures { result ≡ seen_at (get_or channels.now v []) 0 }
 {
-    if state == 1 {
-        return State::Gathering(number as usize);
-    }
-    if state == 2 {
-        return State::Skipping(number as usize);
-    }
-    State::Hunting
-}
-
-fn state_at(words: &[u32], v: usize) -> State
-    requires { v < 8 }
-    ensures { result ≡ state_at words.now v }
-{
-    let at = 4 * v;
-    if at + 3 < words.len() {
-        return seen_state(word_at(words, at + 2), word_at(words, at + 3));
-    }
-    State::Hunting
-}
-
-fn seen_at(words: &[u32], v: usize) -> Channel
-    requires { v < 8 }
-    ensures { result ≡ seen_at words.now v }
-{
-    let state = state_at(words, v);
+    let state = match channels.get(v) {
+        Some(&[_, _, state, number]) => named_state(state, number).unwrap_or(State::Hunting),
+        None => State::Hunting,
+    };
     Channel {
         heard: true,
         last: ChannelCount(0),
@@ -184,20 +113,12 @@ fn seen_at(words: &[u32], v: usize) -> Channel
     }
 }
 
-// The states that stand in the words, in a record of which nothing else is meant.
+// The states that stand in the words.
 pub fn see(words: &[u32]) -> Record
     ensures { result.channels ≡ seen words.now }
 {
+    let (channels, _) = words.as_chunks();
     Record {
-        channels: [
-            seen_at(words, 0),
-            seen_at(words, 1),
-            seen_at(words, 2),
-            seen_at(words, 3),
-            seen_at(words, 4),
-            seen_at(words, 5),
-            seen_at(words, 6),
-            seen_at(words, 7),
-        ],
+        channels: array::from_fn(|v| see_channel(channels, v)),
     }
 }

@@ -9,6 +9,7 @@ use std::io::Read;
 pub fn read_full(from: &mut impl Read, room: &mut [u8]) -> usize
     ensures { result ≤ length room.new }
 {
+    // Counted here: std's `read_exact` does not say how many octets came, and its `read_to_end` needs a heap.
     let mut n = 0;
     while n < room.len() {
         match from.read(&mut room[n..]) {

@@ -12,14 +12,11 @@ use frame::Header;
 use packet::Size;
 use walk::{Course, Tally};
 
+// The default, by the name that OneAnswer has of it.
 pub fn none_yet() -> Tally
     ensures { result ≡ no_tally }
 {
-    Tally {
-        delivered: 0,
-        idle: 0,
-        filled: 0,
-    }
+    Tally::default()
 }
 
 pub fn plain(tally: Tally, state: State, foreign: usize, oversize: usize) -> Course
@@ -28,14 +25,14 @@ pub fn plain(tally: Tally, state: State, foreign: usize, oversize: usize) -> Cou
     Course {
         tally,
         state,
-        broken: 0,
-        disagreement: 0,
         foreign,
         oversize,
+        ..Course::default()
     }
 }
 
 // The pointer that a packet calls for which ends at place `end` of a field of d octets.
+#[tactic(auto, unfolding(walk::specs::Steps::called_at))]
 pub fn called_at(d: usize, end: usize) -> usize
     ensures { result ≡ called_at d end }
 {
@@ -43,6 +40,7 @@ pub fn called_at(d: usize, end: usize) -> usize
 }
 
 // Step 3, of k octets held and a packet that is told to have `size`: the pointer is the one called for.
+#[tactic(auto, unfolding(walk::specs::Steps::agrees, walk::specs::Steps::agrees_by, walk::specs::Steps::called_at))]
 pub fn agreeing(d: usize, k: usize, size: Size, pointer: usize) -> bool
     ensures { result ≡ agrees d k size pointer }
 {
@@ -52,12 +50,7 @@ pub fn agreeing(d: usize, k: usize, size: Size, pointer: usize) -> bool
     match size {
         Size::Wait => pointer == Header::NONE,
         Size::Foreign => true,
-        Size::Total(total) => {
-            if total < k {
-                return pointer == called_at(d, 0);
-            }
-            pointer == called_at(d, total - k)
-        }
+        Size::Total(total) => pointer == called_at(d, total.saturating_sub(k)),
     }
 }
 
@@ -65,57 +58,43 @@ pub fn agreeing(d: usize, k: usize, size: Size, pointer: usize) -> bool
 pub fn broken_by(state: State) -> usize
     ensures { result ≡ broken_by state }
 {
-    if channel::busy_state(state) { 1 } else { 0 }
+    usize::from(channel::busy_state(state))
 }
 
 pub fn break_off(state: State, c: Course) -> Course
     ensures { result ≡ broken_course state c }
 {
-    let tally = c.tally;
-    let next = c.state;
     Course {
-        tally,
-        state: next,
         broken: broken_by(state),
-        disagreement: c.disagreement,
-        foreign: c.foreign,
-        oversize: c.oversize,
+        ..c
     }
 }
 
 pub fn disagreement(state: State, found: Course) -> Course
     ensures { result ≡ disagreed_course state found }
 {
-    let tally = found.tally;
-    let next = found.state;
     Course {
-        tally,
-        state: next,
         broken: broken_by(state),
         disagreement: 1,
-        foreign: found.foreign,
-        oversize: found.oversize,
+        ..found
     }
 }
 
 // An idle or a private frame.
+#[tactic(auto, unfolding(walk::specs::Steps::carries_none))]
 pub fn carries_none(h: Header) -> bool
     ensures { result ≡ carries_none h }
 {
-    if h.synchronisation {
-        return true;
-    }
-    h.pointer == Header::IDLE
+    h.synchronisation || h.pointer == Header::IDLE
 }
 
 // Step 1: the gap.
+#[tactic(auto, unfolding(walk::specs::Steps::gap_for))]
 pub fn gap_for(channel: Channel, h: Header) -> u8
     ensures { result ≡ gap_for channel h }
 {
     if channel.heard {
-        let last = channel.last;
-        let count = h.count;
-        count.gap(last)
+        h.count.gap(channel.last)
     } else {
         0
     }

@@ -10,9 +10,10 @@ ghost use Rattle.keeping.specs.Keeping.{Keeps};
 use channel::{Output, Store};
 use desk::{Desk, Saved, Taken, after, octets_of};
 use frame::SetUp;
-use reading::Answer;
+use reading::{Refusal, Report};
 
-// What is kept from frame to frame, besides the store: the desk, how far each channel's file got, and whether all was read.
+// What is kept from frame to frame, besides the store: the desk, how far each channel's file got, and whether all was read. Arrays of channels
+// stand in each layer by themselves, the record's, the sums, these and the program's files: no layer below knows of what is above it.
 #[derive(Clone, Copy)]
 pub struct Work {
     pub desk: Desk,
@@ -24,7 +25,7 @@ pub struct Work {
 #[derive(Clone, Copy)]
 pub struct Stepped {
     pub work: Work,
-    pub answer: Answer,
+    pub answer: Result<Report, Refusal>,
     pub octets: usize,
 }
 
@@ -34,30 +35,15 @@ pub fn take(desk: Desk, set: SetUp, frame: &[u8], store: &mut [u8], output: &mut
     ensures counts { result.next.totals ≡ totals_after desk.totals result.answer }
     ensures octets { (result.octets ≡ octets_of result.answer output.new) × (result.octets ≤ length output.new) }
 {
-    let rec = desk.rec;
-    let totals = desk.totals;
-    let o = reader::read_kept(set, rec, frame, store, output);
+    let o = reader::read_kept(set, desk.rec, frame, store, output);
     let answer = o.answer;
-    let next = o.after;
-    let octets = octets_of(answer, output);
     Taken {
         answer,
         next: Desk {
-            rec: next,
-            totals: after(totals, answer),
+            rec: o.after,
+            totals: after(desk.totals, answer),
         },
-        octets,
-    }
-}
-
-fn with_desk(work: Work, desk: Desk) -> Work
-    ensures { result.desk ≡ desk }
-{
-    let saved = work.saved;
-    Work {
-        desk,
-        saved,
-        complete: work.complete,
+        octets: octets_of(answer, output),
     }
 }
 
@@ -73,13 +59,13 @@ pub fn step(
     ensures answer { result.answer ≡ answer_of set work.desk.rec store.old output.old frame.now }
     ensures octets { (result.octets ≡ octets_of result.answer output.new) × (result.octets ≤ length output.new) }
 {
-    let before = work.desk;
-    let taken = take(before, set, frame, store, output);
-    let answer = taken.answer;
-    let next = taken.next;
+    let taken = take(work.desk, set, frame, store, output);
     Stepped {
-        work: with_desk(work, next),
-        answer,
+        work: Work {
+            desk: taken.next,
+            ..work
+        },
+        answer: taken.answer,
         octets: taken.octets,
     }
 }

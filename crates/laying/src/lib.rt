@@ -16,16 +16,16 @@ const SHORT_IDLE: [u8; 7] = [0x07, 0xFF, 0xC0, 0x00, 0x00, 0x00, 0x55];
 
 const FILL: u8 = 0x55;
 
+// A left-over is a number with `left_over ≤ most_left` in three contracts: `lay` and `pointer` are public, with fields of OneAnswer, and a type of its own would ask more of their callers.
 // The last octets of an idle packet that was begun in an earlier frame, as many as fit; answers how many were placed.
 fn lay_left_over(field: &mut [u8], left_over: usize) -> usize
     requires { left_over ≤ most_left }
     ensures placed { result ≡ min left_over (length field.old) }
     ensures field { field.new ≡ laid field.old 0 (left_part (length field.old) left_over) }
 {
-    let idle = SHORT_IDLE;
-    let n = octets::lesser(left_over, field.len());
+    let n = left_over.min(field.len());
     let from = Packet::MIN - left_over;
-    octets::copy(field, 0, &idle[from..from + n]);
+    octets::copy(field, 0, &SHORT_IDLE[from..from + n]);
     n
 }
 
@@ -34,8 +34,8 @@ fn lay_idle_packet(field: &mut [u8], at: usize, n: usize)
     requires { (least ≤ n) × (n ≤ most_field) × (at + n ≤ length field.old) }
     ensures { field.new ≡ laid field.old at (idle_packet n) }
 {
-    numbers::put32(field, at, 0x07FF_C000);
-    numbers::put16(field, at + 4, n - Packet::LENGTH_BIAS);
+    numbers::put::<4>(field, at, 0x07FF_C000);
+    numbers::put::<2>(field, at + 4, n - Packet::LENGTH_BIAS);
     octets::fill(field, at + Packet::HEADER, n - Packet::HEADER, FILL);
 }
 
@@ -57,8 +57,7 @@ fn lay_filler(field: &mut [u8], at: usize) -> usize
     if room == 0 {
         return 0;
     }
-    let idle = SHORT_IDLE;
-    octets::copy(field, at, &idle[..room]);
+    octets::copy(field, at, &SHORT_IDLE[..room]);
     Packet::MIN - room
 }
 
@@ -69,7 +68,7 @@ pub fn lay(field: &mut [u8], run: &[u8], offset: usize, left_over: usize) -> Lai
     ensures field { field.new ≡ field_of (length field.old) run.now offset left_over }
 {
     let placed = lay_left_over(field, left_over);
-    let n = octets::lesser(run.len() - offset, field.len() - placed);
+    let n = (run.len() - offset).min(field.len() - placed);
     let next = offset + n;
     octets::copy(field, placed, &run[offset..next]);
     let end = placed + n;

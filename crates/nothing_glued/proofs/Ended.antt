@@ -3,12 +3,12 @@
 use mathlib.Core.Path.{◌≡◌, refl, ◌∙◌, sym, ap}
 use mathlib.Core.List.{List, [], ◌∷◌, ◌++◌, append_assoc}
 use mathlib.Core.Logic.{◌⊎◌, inl, inr}
-use Prim.Native.Nat.{ℕ, zero, suc, ◌≤◌, ◌<◌}
+use Prim.Native.Nat.{ℕ, zero, suc, ◌<◌}
 use native.Mathlib.Decide.{dec_lt, ℕ_discrete}
 use native.Mathlib.Omega.{arith}
 use lib.ListN.{length, take, drop, length-drop, take-append-drop}
 use lib.Seq.{length-take-le}
-use Rattle.packet.specs.Family.{Family, Lawful, Whole, AllWhole}
+use Rattle.packet.specs.Family.{Family, Lawful, AllWhole}
 use Rattle.packet.specs.Theorems.{end_to_end}
 use Rattle.packet.specs.declared.source.Size.{Size}
 use Rattle.packet.specs.declared.source.Size.TheVariants.{Wait, Foreign, Total}
@@ -18,13 +18,8 @@ use Rattle.walk.specs.declared.walking.End.{End}
 use Rattle.walk.specs.Walk.{Done, ended_by, ended, Walked, cut_of, walk_of}
 use Rattle.walk.proofs.DoneLaws.{ended_foreign, ended_oversize}
 use Rattle.walk.proofs.WalkLaws.{Stands, seen_whole, walk_stop, walk_whole, sees_end, sees_few, sees_packet, sees_cut}
+use Rattle.walk.proofs.WholeLaws.{from_walk}
 use Rattle.demands.proofs.Aligned.{AllFit}
-
--- what stands whole at the front of d, cut out, is a whole packet
-cut_whole : (F : Family) (laws : Lawful F) (d : List ℕ) (n : ℕ) → F.size d ≡ Total n → n ≤ length d → Whole F (take n d)
-cut_whole F laws d n e k =
-    laws.last_tells (take n d) (drop n d) n (ap F.size (take-append-drop n d) ∙ e) (omega (arith, length-take-le n d k))
-    ∙ ap Total (sym (length-take-le n d k))
 
 -- a state that gathers says how many octets are held
 abbrev pub Kept : State → List ℕ → Type 0
@@ -102,11 +97,11 @@ pub record InRow (F : Family) (limit : ℕ) (d : List ℕ) (x : Done) : Type 0 w
   pub kept : Kept x.state x.held
 
 module _ (F : Family) (laws : Lawful F) (limit : ℕ) where
-  one_more : (d : List ℕ) (n : ℕ) (x y : Done) → Stands F limit d n → x.whole ≡ take n d ∷ y.whole → x.held ≡ y.held → x.state ≡ y.state
+  one_more : (d : List ℕ) (n : ℕ) (x y : Done) → AllWhole F x.whole → Stands F limit d n → x.whole ≡ take n d ∷ y.whole → x.held ≡ y.held → x.state ≡ y.state
       → InRow F limit (drop n d) y → InRow F limit d x
-  one_more d n x y t w i j h =
+  one_more d n x y k t w i j h =
       record {
-        all_whole = rw w (cut_whole F laws d n t.told t.there, h.all_whole);
+        all_whole = k;
         all_fit = rw w (omega (arith, length-take-le n d t.there, t.within), h.all_fit);
         behind = h.behind;
         laid_end_to_end =
@@ -121,7 +116,7 @@ module _ (F : Family) (laws : Lawful F) (limit : ℕ) where
       → ((n : ℕ) → Stands F limit d n → InRow F limit (drop n d) (ended (walk_of F limit (drop n d)))) → InRow F limit d (ended (walk_of F limit d))
   in_row_by d (stops w i k) on = record { all_whole = rw w tt; all_fit = rw w tt; behind = d; laid_end_to_end = rw w refl; held_is = inl i; kept = k }
   in_row_by d (holds w i k o) on = record { all_whole = rw w tt; all_fit = rw w tt; behind = d; laid_end_to_end = rw w refl; held_is = inr i; kept = k }
-  in_row_by d (packet n t w i j) on = one_more d n (ended (walk_of F limit d)) (ended (walk_of F limit (drop n d))) t w i j (on n t)
+  in_row_by d (packet n t w i j) on = one_more d n (ended (walk_of F limit d)) (ended (walk_of F limit (drop n d))) (from_walk F laws limit d).all_whole t w i j (on n t)
 
   in_row_within : (f : ℕ) (d : List ℕ) → length d < f → InRow F limit d (ended (walk_of F limit d))
   in_row_within zero d l = absurd (omega arith)

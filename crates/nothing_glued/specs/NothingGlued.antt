@@ -2,7 +2,7 @@
 -- its own header, not idle, at most the limit; its octets are held octets followed by octets of this field only if the channel was gathering
 -- them, the gap is 0 and the pointer agrees, and otherwise all lie side by side in this field. The octets that are held for the next call come
 -- from one place in the same way, and of an idle or private frame none are held. The proof is in proofs/NothingGlued.antt.
-use Rattle.std.specs.Prelude.{◌≡◌, true, false, List, [], ◌∷◌, ◌++◌, ◌⊎◌, ℕ, ◌+◌, ◌-◌, ◌≤◌, ◌<◌, length, take, drop}
+use Rattle.std.specs.Prelude.{◌≡◌, true, false, List, [], ◌∷◌, ◌++◌, ◌⊎◌, ℕ, ◌+◌, ◌-◌, ◌≤◌, ◌<◌, length, take, drop, Ok}
 use Rattle.octets.specs.Laid.{laid}
 use Rattle.packet.specs.Family.{Family, Lawful, Whole, AllWhole}
 use Rattle.packet.specs.Size.{most, source}
@@ -15,7 +15,6 @@ use Rattle.channel.specs.declared.state.Channel.{Channel}
 use Rattle.channel.specs.declared.state.Record.{Record}
 use Rattle.channel.specs.declared.state.State.TheVariants.{Hunting, Gathering}
 use Rattle.reading.specs.Reading.{answer_over, record_over, store_over, output_over, field_of, channel_of}
-use Rattle.reading.specs.declared.Answer.TheVariants.{Accepted}
 use Rattle.reading.specs.declared.Kind.TheVariants.{Packets}
 use Rattle.reading.specs.declared.Report.{Report}
 use Rattle.demands.specs.History.{wanted, unwanted}
@@ -114,7 +113,7 @@ pub record Unglued (F : Family) (limit : ℕ) (u : SetUp) (rec : Record) (store 
 -- the claim, of packets of a family F and delivered ones of at most `limit` octets: nothing is asked of a call but that it is accepted
 abbrev pub NothingGluedOver : Family → ℕ → Type 0
 NothingGluedOver F limit = (u : SetUp) (rec : Record) (store out f : List ℕ) (a : Report)
-    → answer_over F limit u rec store out f ≡ Accepted a → Unglued F limit u rec store out f a
+    → answer_over F limit u rec store out f ≡ Ok a → Unglued F limit u rec store out f a
 
 -- it holds of every family that keeps the laws of one, and of every limit
 abbrev pub NothingGluedGeneral : Type 0

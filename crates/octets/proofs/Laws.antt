@@ -1,51 +1,22 @@
--- Laws of `laid`, of octets stored one by one, and of numbers in octets.
+-- Laws of `laid`, of numbers in octets, and of a choice.
 -- Assumes nothing.
 use mathlib.Core.Path.{◌≡◌, refl, ◌∙◌, sym, ap}
 use mathlib.Core.Bool.{Bool, true, false}
-use mathlib.Core.List.{List, [], ◌∷◌, ◌++◌}
-use Prim.Native.Nat.{ℕ, zero, suc, ◌+◌, ◌-◌, ◌*◌, ◌/◌, ◌%◌, ◌≤◌, ◌<◌}
-use native.Mathlib.Nat.{add-zero, add_assoc, div-one}
-use native.Mathlib.Numerals.{add-one, add-two, add-three}
+use mathlib.Core.List.{List, ◌++◌}
+use Prim.Native.Nat.{ℕ, zero, suc, ◌+◌, ◌-◌, ◌*◌, ◌≤◌, ◌<◌}
+use native.Mathlib.Nat.{add-zero, add_assoc}
 use native.Mathlib.Omega.{arith}
-use lib.ListN.{length, get_or, set, take, drop, replicate, length-append, length-take, length-drop, get_or-append}
-use lib.Seq.{paste, paste-suc, sets-eq, take-length, get_or-append-add}
+use lib.ListN.{length, get_or, replicate, length-append, length-take, length-drop, get_or-append}
+use lib.Seq.{get_or-append-add}
 use Rattle.octets.specs.Laid.{laid}
-use Rattle.octets.specs.Numbers.{number_at, octets_of}
+use Rattle.octets.specs.Numbers.{number_at}
 use Rattle.octets.specs.Pick.{pick}
 
 pub length_laid : (d : List ℕ) (at : ℕ) (s : List ℕ) → at + length s ≤ length d → length (laid d at s) ≡ length d
 unfolding laid
 length_laid d at s h = simp (length-append, length-take, length-drop) (omega arith)
 
--- a turn of a loop that copies s into d₀, of which d has i octets already
-pub copied : (d₀ d s : List ℕ) (at i v : ℕ) → at + i < length d₀ → i < length s → v ≡ get_or s i 0 → d ≡ paste d₀ at s i
-    → set d (at + i) v ≡ paste d₀ at s (i + 1)
-copied d₀ d s at i v hd hs hv e = rw (e, hv, add-one) (paste-suc d₀ at s i 0 hd hs)
-
--- a copy of all of s is s laid
-pub paste_all : (d : List ℕ) (at : ℕ) (s : List ℕ) (n : ℕ) → n ≡ length s → paste d at s n ≡ laid d at s
-unfolding laid
-paste_all d at s n e = rw e (ap (λ (l : List ℕ). take at d ++ l ++ drop (at + length s) d) (take-length s))
-
--- the octets of a number stored one after the other
-pub stored_one : (d : List ℕ) (at v : ℕ) → at + 1 ≤ length d → set d at (v % 256) ≡ laid d at (octets_of 1 v)
-unfolding laid octets_of
-stored_one d at v h = rw div-one (sets-eq (v % 256 ∷ []) d at h)
-
-pub stored_two : (d : List ℕ) (at v : ℕ) → at + 2 ≤ length d
-    → set (set d at (v / 256 % 256)) (at + 1) (v % 256) ≡ laid d at (octets_of 2 v)
-unfolding laid octets_of
-stored_two d at v h = rw (add-one, div-one) (sets-eq (v / 256 % 256 ∷ v % 256 ∷ []) d at h)
-
-pub stored_four : (d : List ℕ) (at v : ℕ) → at + 4 ≤ length d
-    → set (set (set (set d at (v / 16777216 % 256)) (at + 1) (v / 65536 % 256)) (at + 2) (v / 256 % 256)) (at + 3) (v % 256)
-    ≡ laid d at (octets_of 4 v)
-unfolding laid octets_of
-stored_four d at v h =
-    rw (add-one, add-two, add-three, div-one)
-    (sets-eq (v / 16777216 % 256 ∷ v / 65536 % 256 ∷ v / 256 % 256 ∷ v % 256 ∷ []) d at h)
-
--- a number in one octet, in two, in four and in six
+-- a number in one octet, in two and in four
 pub number_one : (l : List ℕ) (at : ℕ) → number_at l at 1 ≡ get_or l at 0
 unfolding number_at
 number_one l at = rw add-zero (omega arith)

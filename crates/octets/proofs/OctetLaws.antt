@@ -5,10 +5,9 @@ use Prim.Native.Nat.{ℕ, zero, suc, ◌+◌, ◌-◌, ◌≤◌, ◌<◌}
 use native.Mathlib.Decide.{dec_lt}
 use native.Mathlib.Omega.{arith}
 use lib.ListN.{length, get_or, take, drop, replicate, length-take, get_or-append, get_or-eq_default}
-use lib.Seq.{get_or-take, get_or-drop}
+use lib.Seq.{get_or-take, get_or-drop, get_or-append_right}
 use Rattle.octets.specs.Laid.{laid}
 use Rattle.octets.specs.Octets.{Octets}
-use Rattle.octets.proofs.Laws.{in_second_run}
 
 pub no_octets : Octets []
 no_octets i = omega arith
@@ -30,7 +29,7 @@ octets_append a b h k i = go (dec_lt i (length a))
   where
     go : Dec (i < length a) → get_or (a ++ b) i 0 < 256
     go (yes l) = rw (get_or-append a b 0 i l) (h i)
-    go (no l) = rw (← in_second_run a b i (omega arith)) (k (i - length a))
+    go (no l) = rw (get_or-append_right a b i 0 (omega arith)) (k (i - length a))
 
 pub octets_laid : (d : List ℕ) (at : ℕ) (s : List ℕ) → Octets d → Octets s → Octets (laid d at s)
 unfolding laid

@@ -1,5 +1,5 @@
 // Octets at a place: one octet, a run copied, a part filled; with the definitions and laws of big-endian numbers and of layouts of bits.
-// Each function says what it leaves as one equation of lists, so that nobody above looks into a loop.
+// Each function says what it leaves as one equation of lists.
 #![tactic(auto)]
 
 ghost use Rattle.std.specs.Prelude.{◌≡◌, ◌++◌, ◌+◌, ◌≤◌, ◌<◌, min, length, get_or, replicate};
@@ -9,10 +9,10 @@ pub fn octet(s: &[u8], at: usize) -> usize
     requires { at < length s.now }
     ensures { (result ≡ get_or s.now at 0) × (result < 256) }
 {
-    s[at] as usize
+    usize::from(s[at])
 }
 
-// An octet of two runs that follow one another.
+// An octet of two runs that follow one another. A function of its own: a trait over one run and two would be longer than both.
 pub fn octet_across(a: &[u8], b: &[u8], at: usize) -> usize
     requires { at < length a.now + length b.now }
     ensures { (result ≡ get_or (a.now ++ b.now) at 0) × (result < 256) }
@@ -25,31 +25,26 @@ pub fn octet_across(a: &[u8], b: &[u8], at: usize) -> usize
 }
 
 // All of src into dst, from place at.
+#[tactic(auto, unfolding(crate::specs::Laid::laid))]
 pub fn copy(dst: &mut [u8], at: usize, src: &[u8])
     requires { at + length src.now ≤ length dst.old }
     ensures { dst.new ≡ laid dst.old at src.now }
 {
-    let mut i = 0;
-    while i < src.len() {
-        dst[at + i] = src[i];
-        i += 1;
-    }
+    dst[at..at + src.len()].copy_from_slice(src);
 }
 
 // `count` octets v into dst, from place at.
+#[tactic(auto, unfolding(crate::specs::Laid::laid))]
 pub fn fill(dst: &mut [u8], at: usize, count: usize, v: u8)
     requires { at + count ≤ length dst.old }
     ensures { dst.new ≡ laid dst.old at (replicate count v) }
 {
-    let mut i = 0;
-    while i < count {
-        dst[at + i] = v;
-        i += 1;
-    }
+    dst[at..at + count].fill(v);
 }
 
+// The lesser of two: a function of its own because OneAnswer has its field, and two edits turn it.
 pub fn lesser(a: usize, b: usize) -> usize
     ensures { result ≡ min a b }
 {
-    if a < b { a } else { b }
+    a.min(b)
 }

@@ -1,5 +1,6 @@
 -- Every contract is an equation with a definition, so that two results it allows are equal.
 -- Assumes nothing.
+use mathlib.Core.List.{not-mem-nil}
 use Rattle.std.proofs.Common.{◌≡◌, refl, ◌∙◌, sym}
 use Rattle.one_answer.specs.OneAnswer.{OneAnswer}
 
@@ -13,10 +14,8 @@ one_answer =
       lesser = (λ κs a. tt, λ κs a x y e d p q. both p q);
       octet = λ κs a x y e d p q. both p.0 q.0;
       octet_across = λ κs a x y e d p q. both p.0 q.0;
-      number16 = λ κs a x y e d p q. both p.0 q.0;
-      number32 = λ κs a x y e d p q. both p q;
-      put16 = λ κs a x y e d p q. (refl, both p q);
-      put32 = λ κs a x y e d p q. (refl, both p q);
+      number = λ n κs a x y e d p q. both p.0 q.0;
+      put = λ n κs a x y e d p q. (refl, both p q);
       copy = λ κs a x y e d p q. (refl, both p q);
       fill = λ κs a x y e d p q. (refl, both p q);
       syndrome = (λ κs a. tt, λ κs a x y e d p q. both p q);
@@ -95,6 +94,7 @@ one_answer =
       lay_field = λ κs a x y e d p q. (λ i. record { offset = both p.0.0 q.0.0 i; left_over = both p.0.1 q.0.1 i }, both p.1 q.1);
       pointer = λ κs a x y e d p q. both p q;
       lay_words = (λ κs a. tt, λ κs a x y e d p q. (refl, both p q));
+      refused_values = λ n h. (λ κs a. (λ i m. absurd (not-mem-nil m), h), λ κs a x y e d p q. both p q);
       set_up = (λ κs a. tt, λ κs a x y e d p q. both p q);
       control_word = (λ κs a. tt, λ κs a x y e d p q. both p q);
       flag_word = (λ κs a. tt, λ κs a x y e d p q. both p q);

@@ -2,11 +2,12 @@
 -- for the parts named so it asks nothing of its arguments. Each field cites the operation's contract itself, as the source states it: its signature
 -- (`ended`), and its clauses (`clauses`), from which the facts that they state are read. The function of src/lib.rt has this theorem as its
 -- contract; tests/one_answer_test.py holds the fields against the sources.
-use Rattle.std.specs.Prelude.{List, ◌≡◌, ℕ}
+use Rattle.std.specs.Prelude.{List, ◌≡◌, ℕ, ◌*◌, ◌^◌, ◌<◌}
 use mathlib.Core.Path.{refl}
 use base.Logic.{emp, sep}
 use contract.Lifetimes.{Lfts}
 use contract.Monad.{fact}
+use denote.Param.{number as of_size}
 use denote.Triple.Clauses.{Ended, AtExit, Clauses}
 use borrow.Fn.Claims.{AllOf}
 use borrow.Fn.Read.{Read, all_models, no_know, r_last, r_top, read_join}
@@ -14,10 +15,8 @@ use borrow.Fn.World.{World, Pr, ArgsD, ResD}
 use Rattle.channel.specs.declared.state.Record.{Record}
 use Rattle.octets.specs.contracts.octet as octet
 use Rattle.octets.specs.contracts.octet_across as octet_across
-use Rattle.numbers.specs.contracts.number16 as number16
-use Rattle.numbers.specs.contracts.number32 as number32
-use Rattle.numbers.specs.contracts.put16 as put16
-use Rattle.numbers.specs.contracts.put32 as put32
+use Rattle.numbers.specs.contracts.number as number
+use Rattle.numbers.specs.contracts.put as put
 use Rattle.octets.specs.contracts.copy as copy
 use Rattle.octets.specs.contracts.fill as fill
 use Rattle.octets.specs.contracts.lesser as lesser
@@ -76,6 +75,7 @@ use Rattle.laying.specs.contracts.lay as lay_field
 use Rattle.laying.specs.contracts.pointer as pointer
 use Rattle.writer.specs.contracts.write as write
 use Rattle.host.specs.contracts.lay as lay_words
+use Rattle.host.specs.contracts.refused_values as refused_values
 use Rattle.host.specs.contracts.set_up as set_up
 use Rattle.host.specs.contracts.control_word as control_word
 use Rattle.host.specs.contracts.flag_word as flag_word
@@ -116,6 +116,12 @@ two_clauses φ ψ = read_join (λ w. fact w.𝓤 φ) (λ w. fact w.𝓤 ψ) (one
 abbrev pub three_clauses : (φ ψ χ : Type 0) → Reading (λ w. sep w.𝓤 (fact w.𝓤 φ) (sep w.𝓤 (fact w.𝓤 ψ) (fact w.𝓤 χ)))
 three_clauses φ ψ χ = read_join (λ w. fact w.𝓤 φ) (λ w. sep w.𝓤 (fact w.𝓤 ψ) (fact w.𝓤 χ)) (one_clause φ) (two_clauses ψ χ)
 
+-- and of a function whose result is an array of any length (`const N: usize`), which asks nothing of its arguments: what is to hold of the length,
+-- that a number lends nothing and that the array fits the memory
+abbrev pub array_clauses : (φ ψ : Type 0) → Reading (λ w. sep w.𝓤 (fact w.𝓤 φ) (sep w.𝓤 (fact w.𝓤 ψ) (emp w.𝓤)))
+array_clauses φ ψ = read_join (λ w. fact w.𝓤 φ) (λ w. sep w.𝓤 (fact w.𝓤 ψ) (emp w.𝓤)) (one_clause φ)
+    (read_join (λ w. fact w.𝓤 ψ) (λ w. emp w.𝓤) (one_clause ψ) no_clause)
+
 -- what a contract's `requires` ask of the arguments, and what its `ensures` say of the arguments, the result and the parameters at exit
 abbrev pub Asks : (T : Ended) (c : Cited T) → Ghost T c → Type 2
 Asks T c g = (κs : Lfts T.signature.lifetimes) (a : ArgsD T.signature κs) → Reading (λ w. (c w κs a).requires (g κs a w))
@@ -149,18 +155,14 @@ pub record OneAnswer : Type 0 where
   -- octets
   pub lesser : Answers lesser.ended (λ w. lesser.clauses w.𝓛 w.𝓜.mem w.𝓡.returns) (λ κs a w. tt)
       (λ κs a. no_clause) (λ κs a x e. one_clause _)
-  -- parts of octets and numbers that ask something of their arguments (decision 15)
+  -- parts of octets and numbers that ask something of their arguments (decision 15); of numbers, at each n of octets
   pub octet : One octet.ended (λ w. octet.clauses w.𝓛 w.𝓜.mem w.𝓡.returns) (λ κs a w. tt)
       (λ κs a x e. one_clause _)
   pub octet_across : One octet_across.ended (λ w. octet_across.clauses w.𝓛 w.𝓜.mem w.𝓡.returns) (λ κs a w. tt)
       (λ κs a x e. one_clause _)
-  pub number16 : One number16.ended (λ w. number16.clauses w.𝓛 w.𝓜.mem w.𝓡.returns) (λ κs a w. tt)
+  pub number : (n : ℕ) → One (number.ended (of_size n)) (λ w. number.clauses (of_size n) w.𝓛 w.𝓜.mem w.𝓡.returns) (λ κs a w. tt)
       (λ κs a x e. one_clause _)
-  pub number32 : One number32.ended (λ w. number32.clauses w.𝓛 w.𝓜.mem w.𝓡.returns) (λ κs a w. tt)
-      (λ κs a x e. one_clause _)
-  pub put16 : OneLeft put16.ended (λ w. put16.clauses w.𝓛 w.𝓜.mem w.𝓡.returns) (λ κs a w. tt)
-      (λ κs a x e. one_clause _) (λ κs e. e.0.now)
-  pub put32 : OneLeft put32.ended (λ w. put32.clauses w.𝓛 w.𝓜.mem w.𝓡.returns) (λ κs a w. tt)
+  pub put : (n : ℕ) → OneLeft (put.ended (of_size n)) (λ w. put.clauses (of_size n) w.𝓛 w.𝓜.mem w.𝓡.returns) (λ κs a w. tt)
       (λ κs a x e. one_clause _) (λ κs e. e.0.now)
   pub copy : OneLeft copy.ended (λ w. copy.clauses w.𝓛 w.𝓜.mem w.𝓡.returns) (λ κs a w. tt)
       (λ κs a x e. one_clause _) (λ κs e. e.0.now)
@@ -261,9 +263,9 @@ pub record OneAnswer : Type 0 where
   pub settle : OneLeft settle.ended (λ w. settle.clauses w.𝓛 w.𝓜.mem w.𝓡.returns) (λ κs a w. tt)
       (λ κs a x e. two_clauses _ _) (λ κs e. e.1.1.0.now)
   pub hunt : OneLeft {A = List ℕ × List ℕ} hunt.ended (λ w. hunt.clauses w.𝓛 w.𝓜.mem w.𝓡.returns) (λ κs a w. tt)
-      (λ κs a x e. one_clause _) (λ κs e. (e.1.1.1.0.now, e.1.1.1.1.0.now))
+      (λ κs a x e. one_clause _) (λ κs e. (e.1.0.now, e.1.1.0.now))
   pub gather : OneLeft {A = List ℕ × List ℕ} gather.ended (λ w. gather.clauses w.𝓛 w.𝓜.mem w.𝓡.returns) (λ κs a w. tt)
-      (λ κs a x e. one_clause _) (λ κs e. (e.1.1.1.1.0.now, e.1.1.1.1.1.0.now))
+      (λ κs a x e. one_clause _) (λ κs e. (e.1.1.1.0.now, e.1.1.1.1.0.now))
   pub steps : OneLeft {A = List ℕ × List ℕ} steps.ended (λ w. steps.clauses w.𝓛 w.𝓜.mem w.𝓡.returns) (λ κs a w. tt)
       (λ κs a x e. one_clause _) (λ κs e. (e.1.1.1.1.1.0.now, e.1.1.1.1.1.1.0.now))
   -- reading, reader
@@ -291,6 +293,8 @@ pub record OneAnswer : Type 0 where
   -- host, host_words
   pub lay_words : AnswersLeft lay_words.ended (λ w. lay_words.clauses w.𝓛 w.𝓜.mem w.𝓡.returns) (λ κs a w. tt)
       (λ κs a. no_clause) (λ κs a x e. one_clause _) (λ κs e. e.0.now)
+  pub refused_values : (n : ℕ) → n * 4 < 2 ^ 63 → Answers (refused_values.ended (of_size n)) (λ w. refused_values.clauses (of_size n) w.𝓛 w.𝓜.mem w.𝓡.returns) (λ κs a w. tt)
+      (λ κs a. array_clauses _ _) (λ κs a x e. one_clause _)
   pub set_up : Answers set_up.ended (λ w. set_up.clauses w.𝓛 w.𝓜.mem w.𝓡.returns) (λ κs a w. tt)
       (λ κs a. no_clause) (λ κs a x e. one_clause _)
   pub control_word : Answers control_word.ended (λ w. control_word.clauses w.𝓛 w.𝓜.mem w.𝓡.returns) (λ κs a w. tt)

@@ -1,153 +1,164 @@
 // Opening a frame: tests 1 and 5 to 12, and what the frame gives.
 #![tactic(auto)]
 
-ghost use Rattle.std.specs.Prelude.{◌≡◌, true, ◌+◌, ◌≤◌, ◌<◌, length};
+ghost use Rattle.std.specs.Prelude.{◌≡◌, true, ◌+◌, ◌≤◌, length, Err, IfOk, IfErr};
 ghost use Rattle.frame.specs.Header.{header_of};
 ghost use Rattle.frame.specs.Inside.{open_from};
 ghost use Rattle.frame.specs.Opening.{secondary_size, word_of, row6, row7, row9, row11, row12, open_of};
 ghost use Rattle.frame.specs.SetUp.{fits_of};
 
-use frame::{ChannelCount, Frame, Header, MasterCount, Opened, Refusal, SetUp, data_size};
+use frame::{ChannelCount, Frame, Header, MasterCount, Refusal, SetUp, data_size};
 
-// Test 6.
-fn damaged(set: SetUp, frame: &[u8]) -> bool
-    ensures { result ≡ row6 set frame.now }
-{
-    if set.error_control {
-        crc::syndrome(frame) != 0
-    } else {
-        false
+// A frame that is as long as its set-up says, and its header: what tests 1 and 5 leave to those behind them.
+#[derive(Clone, Copy)]
+struct Whole<'a> {
+    set: SetUp,
+    octets: &'a [u8],
+    header: Header,
+    ghost fits: { fits_of set ≡ true },
+    ghost whole: { length octets.now ≡ set.length },
+    ghost long: { 13 ≤ length octets.now },
+    ghost told: { header ≡ header_of octets.now },
+}
+
+impl<'a> Whole<'a> {
+    // Tests 1 and 5.
+    #[tactic(auto, using(frame::proofs::OpeningSteps::outside, frame::proofs::OpeningSteps::wrong_length))]
+    fn new(set: SetUp, octets: &'a [u8]) -> Result<Whole<'a>, Refusal>
+        ensures ok { IfOk result (λ w. (w.set ≡ set) × (w.octets.now ≡ octets.now)) }
+        ensures err { IfErr result (λ r. Err r ≡ open_of set octets.now) }
+    {
+        if !set.fits() {
+            return Err(Refusal::SetUpRange);
+        }
+        if octets.len() != set.length {
+            return Err(Refusal::FrameLength);
+        }
+        let header = header_of(octets);
+        Ok(Whole {
+            set,
+            octets,
+            header,
+        })
+    }
+
+    // Test 6.
+    #[tactic(auto, unfolding(frame::specs::Opening::row6))]
+    fn damaged(&self) -> bool
+        ensures { result ≡ row6 self.now.set self.now.octets.now }
+    {
+        self.set.error_control && crc::syndrome(self.octets) != 0
+    }
+
+    // Test 9.
+    fn bad_secondary(&self) -> bool
+        ensures { result ≡ row9 self.now.header self.now.octets.now }
+    {
+        self.header.secondary && octets::octet(self.octets, 6) / 64 != 0
+    }
+
+    // s.
+    fn secondary_size(&self) -> usize
+        ensures { (result ≡ secondary_size self.now.header self.now.octets.now) × (result ≤ 64) }
+    {
+        if self.header.secondary {
+            octets::octet(self.octets, 6) % 64 + 1
+        } else {
+            0
+        }
+    }
+
+    #[tactic(auto, unfolding(frame::specs::Opening::word_of))]
+    fn word_at(&self, end: usize) -> u32
+        requires { self.now.header.flagged ≡ true → end + 4 ≤ length self.now.octets.now }
+        ensures { result ≡ word_of self.now.header self.now.octets.now end }
+    {
+        if self.header.flagged {
+            numbers::number::<4>(self.octets, end) as u32
+        } else {
+            0
+        }
+    }
+
+    // Tests 7 to 9, and those behind them.
+    #[tactic(auto, using(frame::proofs::OpeningSteps::wrong_version, frame::proofs::OpeningSteps::wrong_spacecraft, frame::proofs::OpeningSteps::wrong_secondary, frame::proofs::OpeningSteps::right_header))]
+    fn open_header(&self) -> Result<Frame, Refusal>
+        ensures { result ≡ open_from 3 self.now.set self.now.octets.now }
+    {
+        if other_version(self.octets) {
+            return Err(Refusal::FrameVersion);
+        }
+        if self.header.spacecraft != self.set.spacecraft {
+            return Err(Refusal::OtherSpacecraft);
+        }
+        if self.bad_secondary() {
+            return Err(Refusal::SecondaryHeader);
+        }
+        self.open_data()
+    }
+
+    // Tests 10 to 12, and what the frame gives.
+    #[tactic(auto, using(frame::proofs::OpeningSteps::no_data, frame::proofs::OpeningSteps::wrong_order, frame::proofs::OpeningSteps::wrong_pointer, frame::proofs::OpeningSteps::right_frame))]
+    fn open_data(&self) -> Result<Frame, Refusal>
+        ensures { result ≡ open_from 6 self.now.set self.now.octets.now }
+    {
+        let h = self.header;
+        let s = self.secondary_size();
+        let size = data_size(self.set, s, h.flagged);
+        if size < 1 {
+            return Err(Refusal::NoData);
+        }
+        if bad_order(h) {
+            return Err(Refusal::OrderOrSegment);
+        }
+        if bad_pointer(h, size) {
+            return Err(Refusal::PointerPlace);
+        }
+        let place = Header::SIZE + s;
+        let word = self.word_at(place + size);
+        Ok(Frame {
+            header: h,
+            word,
+            place,
+            size,
+        })
     }
 }
 
 // Test 7.
-fn other_version(frame: &[u8]) -> bool
-    requires { 6 ≤ length frame.now }
-    ensures { result ≡ row7 frame.now }
+fn other_version(octets: &[u8]) -> bool
+    requires { 6 ≤ length octets.now }
+    ensures { result ≡ row7 octets.now }
 {
-    numbers::number16(frame, 0) / 16384 != 0
-}
-
-// Test 9.
-fn bad_secondary(h: Header, frame: &[u8]) -> bool
-    requires { 6 < length frame.now }
-    ensures { result ≡ row9 h frame.now }
-{
-    if h.secondary {
-        octets::octet(frame, 6) / 64 != 0
-    } else {
-        false
-    }
-}
-
-// s.
-fn secondary_size(h: Header, frame: &[u8]) -> usize
-    requires { 6 < length frame.now }
-    ensures { (result ≡ secondary_size h frame.now) × (result ≤ 64) }
-{
-    if h.secondary {
-        octets::octet(frame, 6) % 64 + 1
-    } else {
-        0
-    }
+    numbers::number::<2>(octets, 0) / 16384 != 0
 }
 
 // Test 11.
+#[tactic(auto, unfolding(frame::specs::Opening::row11))]
 fn bad_order(h: Header) -> bool
     ensures { result ≡ row11 h }
 {
-    if h.synchronisation {
-        return false;
-    }
-    h.order || h.segment != Header::SEGMENT_ID
+    !h.synchronisation && (h.order || h.segment != Header::SEGMENT_ID)
 }
 
 // Test 12.
+#[tactic(auto, unfolding(frame::specs::Opening::row12))]
 fn bad_pointer(h: Header, size: usize) -> bool
     ensures { result ≡ row12 h size }
 {
-    if h.synchronisation {
-        return false;
-    }
-    if h.pointer < size {
-        return false;
-    }
-    if h.pointer == Header::IDLE {
-        return false;
-    }
-    h.pointer != Header::NONE
-}
-
-fn word_at(h: Header, frame: &[u8], end: usize) -> u32
-    requires { h.flagged ≡ true → end + 4 ≤ length frame.now }
-    ensures { result ≡ word_of h frame.now end }
-{
-    if h.flagged {
-        numbers::number32(frame, end)
-    } else {
-        0
-    }
-}
-
-// Tests 10 to 12, and what the frame gives.
-#[tactic(auto, using(frame::proofs::OpeningSteps::no_data))]
-fn open_data(set: SetUp, h: Header, frame: &[u8]) -> Opened
-    requires { (fits_of set ≡ true) × (length frame.now ≡ set.length) × (h ≡ header_of frame.now) }
-    ensures { result ≡ open_from 6 set frame.now }
-{
-    let s = secondary_size(h, frame);
-    let size = data_size(set, s, h.flagged);
-    if size < 1 {
-        return Opened::Refused(Refusal::NoData);
-    }
-    if bad_order(h) {
-        return Opened::Refused(Refusal::OrderOrSegment);
-    }
-    if bad_pointer(h, size) {
-        return Opened::Refused(Refusal::PointerPlace);
-    }
-    let place = Header::SIZE + s;
-    let word = word_at(h, frame, place + size);
-    Opened::Accepted(Frame {
-        header: h,
-        word,
-        place,
-        size,
-    })
-}
-
-// Tests 7 to 9, and those after them.
-fn open_header(set: SetUp, frame: &[u8]) -> Opened
-    requires { (fits_of set ≡ true) × (length frame.now ≡ set.length) }
-    ensures { result ≡ open_from 3 set frame.now }
-{
-    if other_version(frame) {
-        return Opened::Refused(Refusal::FrameVersion);
-    }
-    let h = header_of(frame);
-    if h.spacecraft != set.spacecraft {
-        return Opened::Refused(Refusal::OtherSpacecraft);
-    }
-    if bad_secondary(h, frame) {
-        return Opened::Refused(Refusal::SecondaryHeader);
-    }
-    open_data(set, h, frame)
+    let points = h.pointer < size || h.pointer == Header::IDLE || h.pointer == Header::NONE;
+    !h.synchronisation && !points
 }
 
 // Opens a frame of this set-up: tests 1 and 5 to 12, the first cause found; else what the frame gives.
-pub fn open(set: SetUp, frame: &[u8]) -> Opened
+pub fn open(set: SetUp, frame: &[u8]) -> Result<Frame, Refusal>
     ensures { result ≡ open_of set frame.now }
 {
-    if !set.fits() {
-        return Opened::Refused(Refusal::SetUpRange);
+    let whole = Whole::new(set, frame)?;
+    if whole.damaged() {
+        return Err(Refusal::FrameCheck);
     }
-    if frame.len() != set.length {
-        return Opened::Refused(Refusal::FrameLength);
-    }
-    if damaged(set, frame) {
-        return Opened::Refused(Refusal::FrameCheck);
-    }
-    open_header(set, frame)
+    whole.open_header()
 }
 
 // The header of a frame.
@@ -155,8 +166,8 @@ fn header_of(frame: &[u8]) -> Header
     requires { 6 ≤ length frame.now }
     ensures { result ≡ header_of frame.now }
 {
-    let first = numbers::number16(frame, 0);
-    let last = numbers::number16(frame, 4);
+    let first = numbers::number::<2>(frame, 0);
+    let last = numbers::number::<2>(frame, 4);
     Header {
         spacecraft: (first / 16 % 1024) as u32,
         channel: first / 2 % 8,

@@ -3,6 +3,7 @@
 use mathlib.Core.Path.{◌≡◌, refl, ◌∙◌, sym, ap}
 use mathlib.Core.Bool.{Bool, true, false}
 use mathlib.Core.List.{List}
+use Rattle.std.specs.Prelude.{Some, None, unwrap_or, IsSome}
 use Prim.Native.Nat.{ℕ, zero, suc, ◌+◌, ◌-◌, ◌≤◌, ◌<◌}
 use native.Mathlib.Decide.{dec_lt, ℕ_discrete}
 use native.Mathlib.Omega.{arith}
@@ -13,28 +14,57 @@ use borrow.Author.Tests.{eq-eqb, ne_eqb, le-leb, lt-leb, leb-true}
 use Rattle.octets.specs.Pick.{pick}
 use Rattle.packet.specs.declared.source.Size.{Size}
 use Rattle.packet.specs.declared.source.Size.TheVariants.{Wait, Foreign, Total}
-use Rattle.packet.specs.Chain.{whole_in, front_of, chain_in, chain_of, distance_in, distance_of}
+use Rattle.packet.specs.Chain.{whole_in, front_of, option_of, chain_in, chain_of, distance_in, distance_of}
 use Rattle.packet.specs.Size.{size_of}
 use Rattle.packet.proofs.Laws.{source_lawful}
 
 -- the front of a run, case by case
 module _ (d : List ℕ) where
-  pub front_waits : size_of d ≡ Wait → 0 ≡ front_of d
-  unfolding front_of whole_in
+  pub front_waits : size_of d ≡ Wait → None ≡ option_of (front_of d)
+  unfolding front_of whole_in option_of
   front_waits e = rw e
-
-  pub front_foreign : size_of d ≡ Foreign → 0 ≡ front_of d
-  unfolding front_of whole_in
-  front_foreign e = rw e
 
   module _ (n : ℕ) (e : size_of d ≡ Total n) where
     pub front_whole : n ≤ length d → n ≡ front_of d
     unfolding front_of whole_in
     front_whole h = rw (e, le-leb n (length d) h)
 
-    pub front_cut : length d < n → 0 ≡ front_of d
-    unfolding front_of whole_in
+    pub front_some : n ≤ length d → Some n ≡ option_of (front_of d)
+    unfolding option_of
+    front_some h = let l : 7 ≤ n = source_lawful.total_least d n e in
+        rw (← front_whole h, ne_eqb n 0 (λ z. omega arith))
+
+    pub front_cut : length d < n → None ≡ option_of (front_of d)
+    unfolding front_of whole_in option_of
     front_cut h = rw (e, lt-leb n (length d) h)
+
+-- what an option of octets tells
+pub option_some : (k n : ℕ) → Some n ≡ option_of k → (n ≡ k) × (1 ≤ n)
+unfolding option_of
+option_some k n e = go (ℕ_discrete k 0)
+  where
+    go : Dec (k ≡ 0) → (n ≡ k) × (1 ≤ n)
+    go (yes z) = let f : Some n ≡ None = rw (eq-eqb k 0 z) at e in cc
+    go (no z) =
+        let f : Some n ≡ Some k = rw (ne_eqb k 0 z) at e in
+        let t : n ≡ k = cc in
+        (t, omega arith)
+
+pub option_none : (k : ℕ) → None ≡ option_of k → k ≡ 0
+unfolding option_of
+option_none k e = go (ℕ_discrete k 0)
+  where
+    go : Dec (k ≡ 0) → k ≡ 0
+    go (yes z) = z
+    go (no z) = let f : None ≡ Some k = rw (ne_eqb k 0 z) at e in cc
+
+pub option_or : (k : ℕ) → unwrap_or (option_of k) 0 ≡ k
+unfolding option_of
+option_or k = go (ℕ_discrete k 0)
+  where
+    go : Dec (k ≡ 0) → unwrap_or (option_of k) 0 ≡ k
+    go (yes z) = rw (eq-eqb k 0 z) (sym z)
+    go (no z) = rw (ne_eqb k 0 z)
 
 -- a whole packet at the front: its total is there
 pub record Stands (d : List ℕ) (n : ℕ) : Type 0 where
@@ -160,7 +190,7 @@ distance_past d o a b =
     (distance_enough (length d) (suc (length (behind d))) (behind d) (o - front_of d) (shorter d a) (omega arith))
 
 -- no distance is longer than the run
-front_fits : (d : List ℕ) → front_of d ≤ length d
+pub front_fits : (d : List ℕ) → front_of d ≤ length d
 front_fits d = go (ℕ_discrete (front_of d) 0)
   where
     go : Dec (front_of d ≡ 0) → front_of d ≤ length d
@@ -183,15 +213,35 @@ unfolding distance_of
 distance_within d o = within (suc (length d)) d o
 
 -- the front of what is left of a run
-pub looked : (run : List ℕ) (at n : ℕ) → n ≡ front_of (take (length run - at) (drop at run)) → n ≡ front_of (drop at run)
-looked run at n e = e ∙ ap front_of (take_all (length run - at) (drop at run) (simp length-drop (omega arith)))
+pub looked : (run : List ℕ) (at : ℕ) → front_of (take (length run - at) (drop at run)) ≡ front_of (drop at run)
+looked run at = ap front_of (take_all (length run - at) (drop at run) (simp length-drop (omega arith)))
 
--- what every turn of the chain test keeps: from place `at` it comes to what it came to from the start
-pub record Tested (run : List ℕ) (at : ℕ) : Type 0 where
-  pub inside : at ≤ length run
-  pub same : chain_of (drop at run) ≡ chain_of run
+pub looked_some : (run : List ℕ) (at n : ℕ) → Some n ≡ option_of (front_of (take (length run - at) (drop at run)))
+    → (n ≡ front_of (drop at run)) × (1 ≤ n)
+looked_some run at n e = option_some (front_of (drop at run)) n (e ∙ ap option_of (looked run at))
 
--- and of the distance: place `at` is a packet's start or the end, and the distance is counted from it
+-- a packet of n octets at the front of what is left
+module _ (rest : List ℕ) (n : ℕ) (e : Some n ≡ option_of (front_of rest)) where
+  pub packet_fits : (1 ≤ n) × (n ≤ length rest)
+  packet_fits = let t = option_some (front_of rest) n e in
+      (t.1, rw t.0 (stands rest (omega arith)).there)
+
+  pub chain_behind : chain_of (take (length rest - n) (drop n rest)) ≡ chain_of rest
+  chain_behind =
+      let t = option_some (front_of rest) n e in
+      let a : take (length rest - n) (drop n rest) ≡ drop n rest = take_all (length rest - n) (drop n rest) (simp length-drop (omega arith)) in
+      let b : chain_of rest ≡ chain_of (drop n rest) = rw t.0 (chain_more rest (omega arith)) in
+      ap chain_of a ∙ sym b
+
+-- where no packet is at the front, the rest is a chain exactly if it is empty
+pub chain_ends : (rest : List ℕ) → None ≡ option_of (front_of rest) → chain_of rest ≡ eqb (length rest) 0
+chain_ends rest e = go (ℕ_discrete (length rest) 0)
+  where
+    go : Dec (length rest ≡ 0) → chain_of rest ≡ eqb (length rest) 0
+    go (yes z) = chain_none rest z ∙ sym (eq-eqb (length rest) 0 z)
+    go (no z) = chain_stop rest (omega arith) (option_none (front_of rest) e) ∙ sym (ne_eqb (length rest) 0 z)
+
+-- what every turn of the distance keeps: place `at` is a packet's start or the end, and the distance is counted from it
 abbrev onward : List ℕ → ℕ → ℕ → ℕ
 onward run offset at = pick (leb offset at) (at - offset) (distance_of (drop at run) (offset - at))
 
@@ -213,9 +263,6 @@ module _ (run : List ℕ) (at n : ℕ) (e : n ≡ front_of (drop at run)) (h : 1
   chain_on : chain_of (drop (at + n) run) ≡ chain_of (drop at run)
   chain_on = ap chain_of on ∙ sym (chain_more (drop at run) (omega arith))
 
-  pub tested_more : Tested run at → Tested run (at + n)
-  tested_more k = record { inside = packet_is_fit.1; same = chain_on ∙ k.same }
-
   onward_more : (offset : ℕ) → at < offset → Dec (at + n < offset) → onward run offset (at + n) ≡ onward run offset at
   onward_more offset l (yes b) =
       let z : offset - (at + n) ≡ offset - at - front_of (drop at run) = omega arith in
@@ -234,18 +281,8 @@ module _ (run : List ℕ) (at n : ℕ) (e : n ≡ front_of (drop at run)) (h : 1
         same = onward_more offset l (dec_lt (at + n) offset) ∙ k.same;
       }
 
--- where a test begins, and where it ends
+-- where the distance begins, and where it ends
 module _ (run : List ℕ) where
-  pub tested_start : Tested run 0
-  tested_start = record { inside = omega arith; same = refl }
-
-  module _ (at : ℕ) (k : Tested run at) where
-    pub tested_stop : at < length run → front_of (drop at run) ≡ 0 → false ≡ chain_of run
-    tested_stop l e = sym (chain_stop (drop at run) (omega (arith, length-drop at run)) e) ∙ k.same
-
-    pub tested_end : length run ≤ at → true ≡ chain_of run
-    tested_end l = sym (chain_none (drop at run) (omega (arith, length-drop at run))) ∙ k.same
-
   module _ (offset : ℕ) where
     pub passed_start : chain_of run ≡ true → Passed run offset 0
     passed_start c = record { inside = omega arith; chain = c; same = go (ℕ_discrete offset 0) }
@@ -258,8 +295,11 @@ module _ (run : List ℕ) where
 
     module _ (at : ℕ) (k : Passed run offset at) where
       -- before the offset a packet stands
-      pub passed_front : (n : ℕ) → n ≡ front_of (drop at run) → at < offset → offset ≤ length run → 1 ≤ n
-      passed_front n e l h = omega (arith, chain_front (drop at run) k.chain (omega (arith, length-drop at run)))
+      pub passed_front : at < offset → offset ≤ length run → IsSome (option_of (front_of (take (length run - at) (drop at run))))
+      unfolding option_of
+      passed_front l h =
+          let some : 1 ≤ front_of (drop at run) = chain_front (drop at run) k.chain (omega (arith, length-drop at run)) in
+          rw (looked run at, ne_eqb (front_of (drop at run)) 0 (λ z. omega arith))
 
       pub passed_end : offset ≤ at → at - offset ≡ distance_of run offset
       passed_end l = rw (le-leb offset at l) at k.same

@@ -124,7 +124,7 @@ total_stays p q n e = go (packet_case p)
         (size_in_words (p ++ q)).six (omega (arith, longer p q)) (version_more p q (omega arith) ∙ v)
         ∙ ap Total (total_more p q h ∙ total_same (w.six h v) e)
 
-total_least : (p : List ℕ) (n : ℕ) → size_of p ≡ Total n → 7 ≤ n
+pub total_least : (p : List ℕ) (n : ℕ) → size_of p ≡ Total n → 7 ≤ n
 total_least p n e = go (packet_case p)
   where
     w : InWords p

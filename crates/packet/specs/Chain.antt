@@ -1,5 +1,5 @@
 -- A run as a chain of whole packets (01, "Writing one frame"; row 22), and the packet boundaries in it.
-use Rattle.std.specs.Prelude.{Bool, true, false, List, ℕ, zero, suc, ◌-◌, eqb, leb, length, drop}
+use Rattle.std.specs.Prelude.{Bool, true, false, List, Option, Some, None, ℕ, zero, suc, ◌-◌, eqb, leb, length, drop}
 use Rattle.octets.specs.Pick.{pick}
 use Rattle.packet.specs.declared.source.Size.{Size}
 use Rattle.packet.specs.declared.source.Size.TheVariants.{Wait, Foreign, Total}
@@ -13,6 +13,10 @@ whole_in (Total n) k = pick (leb n k) n 0
 
 unfoldable pub front_of : List ℕ → ℕ
 front_of run = whole_in (size_of run) (length run)
+
+-- the same as an option: 0 octets are no packet
+unfoldable pub option_of : ℕ → Option ℕ
+option_of n = pick (eqb n 0) None (Some n)
 
 -- packet behind packet to the run's end, in at most so many turns
 unfoldable pub chain_in : ℕ → List ℕ → Bool

@@ -3,7 +3,7 @@ ghost use Rattle.packet.specs.Header.{packet_header_of, version_of};
 
 use crate::source::Packet;
 
-// The values of a packet header.
+// The values of a packet header, as numbers: the layout gives them these, and nothing here goes by a kind of packet but idle.
 #[derive(Clone, Copy)]
 pub struct Header {
     pub version: u8,
@@ -16,6 +16,7 @@ pub struct Header {
 }
 
 // The version, which the first octet holds.
+#[tactic(auto, using(crate::proofs::HeaderLaws::version_is))]
 pub fn version(packet: &[u8]) -> u8
     requires { 1 ≤ length packet.now }
     ensures { result ≡ version_of packet.now }
@@ -41,9 +42,9 @@ impl Header {
             version: version(packet),
             type_bit: (first / 16 % 2) as u8,
             secondary: first / 8 % 2 == 1,
-            application: application(numbers::number16(packet, 0)),
+            application: application(numbers::number::<2>(packet, 0)),
             grouping: (third / 64) as u8,
-            sequence: numbers::number16(packet, 2) % 16384,
+            sequence: numbers::number::<2>(packet, 2) % 16384,
             total: Packet::total(packet),
         }
     }

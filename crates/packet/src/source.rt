@@ -44,23 +44,24 @@ impl Packet {
     }
 
     // The same where the caller has a limit of its own.
+    #[tactic(auto, unfolding(crate::specs::Size::packet_fits))]
     pub fn fits_within(total: usize, limit: usize) -> bool
         ensures { result ≡ packet_fits limit total }
     {
-        if total < Packet::MIN {
-            return false;
-        }
-        total <= limit
+        Packet::MIN <= total && total <= limit
     }
 
+    #[tactic(auto, using(crate::proofs::HeaderLaws::application_is), unfolding(crate::specs::Header::idle_of))]
     pub fn idle(packet: &[u8]) -> bool
         requires { 2 ≤ length packet.now }
         ensures { result ≡ idle_of packet.now }
     {
-        idle_by(numbers::number16(packet, 0))
+        idle_by(numbers::number::<2>(packet, 0))
     }
 
     // The same of octets that lie in two places: those held, and those that follow.
+    // Two functions and not one over a trait: only idle and size read across, and two impls of a trait would be longer than both.
+    #[tactic(auto, using(crate::proofs::HeaderLaws::application_is, octets::proofs::Laws::number_two), unfolding(crate::specs::Header::idle_of))]
     pub fn idle_across(held: &[u8], more: &[u8]) -> bool
         requires { 2 ≤ length held.now + length more.now }
         ensures { result ≡ idle_of (held.now ++ more.now) }
@@ -70,18 +71,20 @@ impl Packet {
         idle_by(first * 256 + second)
     }
 
+    #[tactic(auto, using(crate::proofs::HeaderLaws::total_is))]
     pub fn total(seen: &[u8]) -> usize
         requires { 6 ≤ length seen.now }
         ensures { (result ≡ total_of seen.now) × (result ≤ format_most) }
     {
-        numbers::number16(seen, 4) + Packet::LENGTH_BIAS
+        numbers::number::<2>(seen, 4) + Packet::LENGTH_BIAS
     }
 
     // What the octets seen so far of a packet tell.
+    #[tactic(auto, unfolding(crate::specs::Size::size_of))]
     pub fn size(seen: &[u8]) -> Size
         ensures { result ≡ size_of seen.now }
     {
-        if seen.len() == 0 {
+        if seen.is_empty() {
             return Size::Wait;
         }
         if version(seen) != 0 {
@@ -100,7 +103,8 @@ impl Packet {
         if Packet::HEADER <= held.len() {
             return Packet::size(held);
         }
-        let mut head = [0u8; 6];
+        // Six octets and how many are there: the library has no heap.
+        let mut head = [0u8; Packet::HEADER];
         let k = held.len();
         octets::copy(&mut head, 0, held);
         let wanted = Packet::HEADER - k;

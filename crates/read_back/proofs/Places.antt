@@ -1,5 +1,6 @@
 -- The writer's places: from a place that passes the tests no call is refused, each call gives the frame as laid, and the next place passes.
 -- Assumes nothing.
+use Rattle.std.specs.Prelude.{Option, Ok}
 use mathlib.Core.Path.{◌≡◌}
 use mathlib.Core.Bool.{true, false}
 use mathlib.Core.List.{List, [], ◌∷◌}
@@ -14,7 +15,6 @@ use Rattle.frame.specs.declared.closing.ControlWord.{ControlWord}
 use Rattle.frame.specs.declared.set_up.SetUp.{SetUp}
 use Rattle.table.proofs.Laws.{none_gives}
 use Rattle.writing.specs.Writing.{row24, write_table, answer_of, next_of, output_of, next_place, frame_written}
-use Rattle.writing.specs.declared.Answer.TheVariants.{Frame}
 use Rattle.writing.specs.declared.Place.{Place}
 use Rattle.writing.proofs.Laws.{written_exactly, goes_on}
 use Rattle.writing.proofs.WritingSteps.{few_left, passed, passing}
@@ -39,11 +39,11 @@ module _ {u : SetUp} {v : ℕ} {run : List ℕ} {p : Place} (s : Writes u v run 
   pub few : p.left_over ≤ 6
   few = few_left (length run) p.offset p.left_over s.border
 
-  module _ (w : ControlWord) (out : List ℕ) (e : length out ≡ u.length) where
+  module _ (w : Option ControlWord) (out : List ℕ) (e : length out ≡ u.length) where
     none : None (write_table u v p run out)
     none = passed u v p run out s.fits s.channel s.short s.chain s.inside s.border e
 
-    pub answers : answer_of u v p run out ≡ Frame
+    pub answers : answer_of u v p run out ≡ Ok tt
     answers = (written_exactly u v p run out).1 none
 
     pub next_is : next_of u v p w run out ≡ next_place u p w run

@@ -1,6 +1,7 @@
 -- How far the writer's calls come: the offset never goes back, each call before the run's end comes on by at least one octet, and the
 -- octets that the frames carry balance with those of the left-over, the run and the fillers.
 -- Assumes nothing.
+use Rattle.std.specs.Prelude.{Option}
 use mathlib.Core.Path.{◌≡◌, refl, ◌∙◌, ap}
 use mathlib.Core.Bool.{Bool, true, false}
 use mathlib.Core.List.{List, [], ◌∷◌}
@@ -124,13 +125,13 @@ both_balance o l o' l' o'' l'' c T g G (e, first) (e', second) = (omega arith, g
     go (inr h) (inl i) = inr (omega arith)
 
 -- the filler that a call begins
-abbrev begun : SetUp → ControlWord → List ℕ → Place → List (List ℕ)
+abbrev begun : SetUp → Option ControlWord → List ℕ → Place → List (List ℕ)
 begun u w run p =
     filler_for (length (placed_part (close_size u w) run p.offset p.left_over))
     (close_size u w - length (placed_part (close_size u w) run p.offset p.left_over))
 
 -- one call
-module _ {u : SetUp} {v : ℕ} {run : List ℕ} {p : Place} (s : Writes u v run p) (w : ControlWord) (out : List ℕ) (e : length out ≡ u.length) where
+module _ {u : SetUp} {v : ℕ} {run : List ℕ} {p : Place} (s : Writes u v run p) (w : Option ControlWord) (out : List ℕ) (e : length out ≡ u.length) where
   turn_place : Turn (close_size u w) (length run) p.offset p.left_over (length (left_part (close_size u w) p.left_over))
       (length (run_part (close_size u w) run p.offset p.left_over)) (length (placed_part (close_size u w) run p.offset p.left_over))
       (left_after (length (placed_part (close_size u w) run p.offset p.left_over))

@@ -1,6 +1,7 @@
 -- The frames that the writer gives, call after call, are the sender's: the left-over as tail, the packets of the run, the fillers, and then
 -- what is sent behind the run.
 -- Assumes nothing.
+use Rattle.std.specs.Prelude.{Option}
 use mathlib.Core.Path.{◌≡◌, refl, ◌∙◌, sym, ap, ap₂, subst}
 use mathlib.Core.Bool.{Bool, true, false, false≢true}
 use mathlib.Core.List.{List, [], ◌∷◌, ◌++◌, append_assoc, append-nil}
@@ -115,7 +116,7 @@ pub pointer_some : (D distance left : ℕ) (b : Bool) → b ≡ false → pointe
 unfolding pointer_of called_at
 pointer_some D distance left b e = rw e
 
-pub size_most : (u : SetUp) (w : ControlWord) → fits_of u ≡ true → close_size u w ≤ 2042
+pub size_most : (u : SetUp) (w : Option ControlWord) → fits_of u ≡ true → close_size u w ≤ 2042
 size_most u w e = (sizes u w e).most
 
 -- fillers are whole and idle
@@ -163,7 +164,7 @@ unfolding inner
 at_end ps fs offset left e h = past_run ps fs offset left h ∙ rw e
 
 -- whether a call places anything
-module _ {u : SetUp} {v : ℕ} {run : List ℕ} {p : Place} (s : Writes u v run p) (w : ControlWord) (out : List ℕ) (e : length out ≡ u.length) where
+module _ {u : SetUp} {v : ℕ} {run : List ℕ} {p : Place} (s : Writes u v run p) (w : Option ControlWord) (out : List ℕ) (e : length out ≡ u.length) where
   pub some_placed : nothing_of run p.offset p.left_over ≡ false → length (placed_part (close_size u w) run p.offset p.left_over) ≡ 0 → ⊥
   some_placed z y = false≢true (sym z ∙ (laid_well u v p w run out (answers s w out e)).nothing.1 (nothing_in _ y))
 
@@ -171,20 +172,20 @@ module _ {u : SetUp} {v : ℕ} {run : List ℕ} {p : Place} (s : Writes u v run 
   none_placed z = ap length ((laid_well u v p w run out (answers s w out e)).nothing.0 z)
 
 -- what is to be sent at a place, and at the next
-abbrev now : SetUp → List (List ℕ) → Place → ControlWord → List (List ℕ) → List Mark
+abbrev now : SetUp → List (List ℕ) → Place → Option ControlWord → List (List ℕ) → List Mark
 now u ps p w fs =
     to_send ps p.offset p.left_over
     (filler_for (length (placed_part (close_size u w) (end_to_end ps) p.offset p.left_over))
     (close_size u w - length (placed_part (close_size u w) (end_to_end ps) p.offset p.left_over)) ++ fs)
 
-abbrev later : SetUp → List (List ℕ) → Place → ControlWord → List (List ℕ) → List Mark
+abbrev later : SetUp → List (List ℕ) → Place → Option ControlWord → List (List ℕ) → List Mark
 later u ps p w fs =
     to_send ps (p.offset + length (run_part (close_size u w) (end_to_end ps) p.offset p.left_over))
     (left_over_after (close_size u w) (end_to_end ps) p.offset p.left_over) fs
 
 -- one call
 module _ {u : SetUp} {v : ℕ} (ps : List (List ℕ)) {p : Place} (s : Writes u v (end_to_end ps) p) (whole : AllWhole source ps)
-    (real : Octets (end_to_end ps)) (w : ControlWord) (out : List ℕ) (e : length out ≡ u.length) (small : word_number w < 2 ^ 32)
+    (real : Octets (end_to_end ps)) (w : Option ControlWord) (out : List ℕ) (e : length out ≡ u.length) (small : word_number w < 2 ^ 32)
     (fs fr : List (List ℕ)) (more : AllWhole source fs) where
   step_packets : nothing_of (end_to_end ps) p.offset p.left_over ≡ false → Sends u v (after p.count.0) (later u ps p w fs) fr
       → Sends u v p.count.0 (now u ps p w fs) (frame_written u v p w (end_to_end ps) ∷ fr)

@@ -7,6 +7,7 @@ use Prim.Native.Nat.{ℕ, ◌+◌, ◌-◌, ◌≤◌, ◌<◌}
 use native.Mathlib.Omega.{arith}
 use lib.Dec.{eqb, leb}
 use lib.ListN.{length, get_or, take, drop, replicate}
+use Rattle.std.specs.Prelude.{Ok}
 use Rattle.octets.specs.Pick.{pick}
 use Rattle.packet.specs.Family.{Family, AllWhole}
 use Rattle.packet.specs.declared.source.Size.{Size}
@@ -29,7 +30,6 @@ use Rattle.channel.proofs.Laws.{each_follows}
 use Rattle.reading.specs.Reading.{answer_over, record_over, store_over, field_of, channel_of, done_by, report_of}
 use Rattle.walk.specs.Steps.{hunted, broken_by, called_at, agrees, gathered, skipped, disagreed, resumed, gap_for}
 use Rattle.walk.specs.Walk.{Done, only, ended, ended_by, Walked, walk_of}
-use Rattle.reading.specs.declared.Answer.TheVariants.{Accepted}
 use Rattle.reading.specs.declared.Report.{Report}
 use Rattle.walk.specs.declared.walking.End.{End}
 use Rattle.read_back.specs.Demand2.{OutputsPass, Smooth}
@@ -124,7 +124,7 @@ module _ {F : Family} {limit : ℕ} {c : Channel} {part tail : List ℕ} {ps : L
 module _ {F : Family} {limit : ℕ} (G : Roomy F limit)
     {u : SetUp} {v : ℕ} {tail : List ℕ} {ps : List (List ℕ)} {rec : Record} {store : List ℕ} {heard : Bool} {came : List Bool}
     {f : List ℕ} {fs : List (List ℕ)} (w : AllWhole F ps) (k : Kept F limit u v tail ps rec store heard 0 came (f ∷ fs)) (out : List ℕ)
-    (room : limit + most_length ≤ length out) (a : Report) (accepted : answer_over F limit u rec store out f ≡ Accepted a) where
+    (room : limit + most_length ≤ length out) (a : Report) (accepted : answer_over F limit u rec store out f ≡ Ok a) where
   about : (x : Frame) → Sent u v k.count f x → report_of F x (channel_of x rec) (done_by F limit x rec store f) ≡ a
   about x s = let r = (read G u rec store out f x k.fine room s.opens).answers in cc
 

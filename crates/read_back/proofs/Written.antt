@@ -1,5 +1,6 @@
 -- A written frame is a frame of the sender's: it opens on its channel with its count around the data field as laid, and is of octets.
 -- Assumes nothing.
+use Rattle.std.specs.Prelude.{Option}
 use mathlib.Core.Path.{◌≡◌, refl}
 use mathlib.Core.Bool.{Bool, true, false}
 use mathlib.Core.List.{List, [], ◌∷◌, ◌++◌}
@@ -68,14 +69,14 @@ field_octets D run offset left h =
     (octets_take (drop offset run) (D - length (left_part D left)) (octets_drop run offset h)))
     (filler_octets (length (placed_part D run offset left)) (D - length (placed_part D run offset left)))
 
-pub frame_octets : (u : SetUp) (v : ℕ) (p : Place) (w : ControlWord) (run : List ℕ) → Octets run → Octets (frame_written u v p w run)
+pub frame_octets : (u : SetUp) (v : ℕ) (p : Place) (w : Option ControlWord) (run : List ℕ) → Octets run → Octets (frame_written u v p w run)
 unfolding frame_written
 frame_octets u v p w run h =
     around_octets u v p.master p.count w (laid_pointer u w run p) (laid_field u w run p)
     (field_octets (close_size u w) run p.offset p.left_over h)
 
 -- what the frame opens to
-abbrev pub opened_to : SetUp → ℕ → Place → ControlWord → List ℕ → Frame
+abbrev pub opened_to : SetUp → ℕ → Place → Option ControlWord → List ℕ → Frame
 opened_to u v p w run =
     record {
       header = record {
@@ -95,7 +96,7 @@ opened_to u v p w run =
       size = close_size u w;
     }
 
-module _ {u : SetUp} {v : ℕ} {run : List ℕ} {p : Place} (s : Writes u v run p) (real : Octets run) (w : ControlWord) (out : List ℕ)
+module _ {u : SetUp} {v : ℕ} {run : List ℕ} {p : Place} (s : Writes u v run p) (real : Octets run) (w : Option ControlWord) (out : List ℕ)
     (e : length out ≡ u.length) (small : word_number w < 2 ^ 32) where
   pub sent : Sent u v p.count.0 (frame_written u v p w run) (opened_to u v p w run)
   sent =

@@ -1,6 +1,6 @@
 -- Demand 2: frames that are written from a run of packets read back, in order and from a fresh record, to exactly the packets of the run that
 -- are not idle and have at most 4,096 octets. The proof is in proofs/Demand2.antt.
-use Rattle.std.specs.Prelude.{◌≡◌, true, List, [], ◌∷◌, ◌++◌, map, ℕ, ◌+◌, ◌-◌, ◌*◌, ◌^◌, ◌≤◌, ◌<◌, eqb, leb, length, drop}
+use Rattle.std.specs.Prelude.{◌≡◌, true, List, [], ◌∷◌, ◌++◌, map, ℕ, ◌+◌, ◌-◌, ◌*◌, ◌^◌, ◌≤◌, ◌<◌, eqb, leb, length, drop, Option, Ok}
 use Rattle.octets.specs.Pick.{pick}
 use Rattle.octets.specs.Octets.{Octets}
 use Rattle.packet.specs.Family.{Family, AllWhole}
@@ -15,18 +15,16 @@ use Rattle.frame.specs.declared.set_up.SetUp.{SetUp}
 use Rattle.channel.specs.State.{fresh_record}
 use Rattle.channel.specs.declared.state.Record.{Record}
 use Rattle.reading.specs.Reading as read
-use Rattle.reading.specs.declared.Answer.TheVariants.{Accepted}
 use Rattle.reading.specs.declared.Report.{Report}
 use Rattle.walk.specs.Theorems.{Roomy}
 use Rattle.writing.specs.Laying.{idle_packet, most_left, placed_part, short_idle}
 use Rattle.writing.specs.Writing as write
-use Rattle.writing.specs.declared.Answer.TheVariants.{Frame}
 use Rattle.writing.specs.declared.Place.{Place}
 use Rattle.demands.specs.History.{arrives, Delivers, handed_out, wanted}
 
 -- a call of the writer: its control word, any one or none, and the output that it is lent
 pub record Writing : Type 0 where
-  pub word : ControlWord
+  pub word : Option ControlWord
   pub out : List ℕ
 
 -- "each call given what the last one returned and the same run, channel and set-up": the frames, and where the writing then stands
@@ -43,7 +41,7 @@ place_after u v run p (c ∷ cs) = place_after u v run (write.next_of u v p c.wo
 abbrev pub NoneRefused : SetUp → ℕ → List ℕ → Place → List Writing → Type 0
 NoneRefused u v run p [] = Unit {0}
 NoneRefused u v run p (c ∷ cs) =
-    (write.answer_of u v p run c.out ≡ Frame) × NoneRefused u v run (write.next_of u v p c.word run c.out) cs
+    (write.answer_of u v p run c.out ≡ Ok tt) × NoneRefused u v run (write.next_of u v p c.word run c.out) cs
 
 -- the outputs have N octets, and a control word is a number of 32 bits
 abbrev pub Fair : SetUp → List Writing → Type 0
@@ -71,7 +69,7 @@ abbrev pub Smooth : Family → ℕ → SetUp → Record → List ℕ → List (L
 Smooth F limit u rec store [] outs = Unit {0}
 Smooth F limit u rec store (f ∷ fs) [] = Unit {0}
 Smooth F limit u rec store (f ∷ fs) (o ∷ os) =
-    ((a : Report) → read.answer_over F limit u rec store o f ≡ Accepted a → (a.gap ≡ 0) × (a.broken ≡ 0))
+    ((a : Report) → read.answer_over F limit u rec store o f ≡ Ok a → (a.gap ≡ 0) × (a.broken ≡ 0))
     × Smooth F limit u (read.record_over F limit u rec store o f) (read.store_over F limit u rec store o f) fs os
 
 -- the packets of at most `limit` octets

@@ -3,10 +3,16 @@ ghost use Rattle.reading.specs.Reading.{Read};
 use crate::by_value::read_core;
 use channel::Record;
 use frame::SetUp;
-use reading::{Answer, Outcome};
+use reading::{Outcome, Refusal, Report};
 
 // The thin entry: the record of the eight channels is lent, and changed in place.
-pub fn read(set: SetUp, rec: &mut Record, frame: &[u8], store: &mut [u8], out: &mut [u8]) -> Answer
+pub fn read(
+    set: SetUp,
+    rec: &mut Record,
+    frame: &[u8],
+    store: &mut [u8],
+    out: &mut [u8],
+) -> Result<Report, Refusal>
     ensures { Read set rec.old store.old out.old frame.now result rec.new store.new out.new }
 {
     let o = read_core(set, *rec, frame, store, out);

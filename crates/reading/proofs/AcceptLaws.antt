@@ -8,6 +8,7 @@ use native.Mathlib.Decide.{dec_lt}
 use native.Mathlib.Omega.{arith}
 use lib.ListN.{length, get_or, set, take, drop, length-take, length-drop, get_or-eq_default}
 use lib.Seq.{drop-drop}
+use Rattle.std.specs.Prelude.{Ok}
 use Rattle.packet.specs.Family.{Family}
 use Rattle.packet.specs.Size.{most, source}
 use Rattle.frame.specs.declared.opening.Frame.{Frame}
@@ -17,7 +18,6 @@ use Rattle.channel.specs.Store.{part_place, part_of, with_part}
 use Rattle.channel.specs.declared.state.Record.{Record}
 use Rattle.channel.proofs.Laws.{part_inside, each_follows}
 use Rattle.channel.proofs.PartLaws.{cut_part}
-use Rattle.reading.specs.declared.Answer.TheVariants.{Accepted}
 use Rattle.walk.specs.declared.stepping.Course.{Course}
 use Rattle.reading.specs.declared.Kind.{Kind}
 use Rattle.reading.specs.Inside.{ReadBy, Ready}
@@ -68,7 +68,7 @@ module _ {F : Family} {limit : ℕ} (rec : Record) (x : Frame) (f store out : Li
         → Did F (steps_of F limit (take (at + limit - at) (drop at store)) (take (x.place + x.size - x.place) (drop x.place f)) x.header (channel_of x rec))
         course (take (at + limit - at) (drop at store)) part' out out'
         → ReadBy F limit x rec store out f
-        (Accepted (record {
+        (Ok (record {
           kind = kind;
           header = x.header;
           word = x.word;

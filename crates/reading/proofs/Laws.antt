@@ -9,6 +9,7 @@ use native.Mathlib.Omega.{arith}
 use lib.Dec.{eqb}
 use lib.ListN.{length, get_or}
 use lib.Seq.{get_or-set_same, get_or-set_other}
+use Rattle.std.specs.Prelude.{Result, Ok, Err}
 use Rattle.octets.specs.Pick.{pick}
 use Rattle.octets.proofs.Laws.{zeros_all}
 use Rattle.octets.specs.Octets.{Octets}
@@ -22,8 +23,6 @@ use Rattle.table.proofs.Laws.{first_exactly, made}
 use Rattle.channel.specs.State.{fresh_channel}
 use Rattle.channel.specs.declared.state.Channel.{Channel}
 use Rattle.channel.specs.declared.state.Record.{Record}
-use Rattle.reading.specs.declared.Answer.{Answer}
-use Rattle.reading.specs.declared.Answer.TheVariants.{Refused, Accepted}
 use Rattle.reading.specs.declared.Refusal.{Refusal}
 use Rattle.reading.specs.declared.Refusal.TheVariants.{OfFrame, StoreLength, OutputLength, BrokenRecord}
 use Rattle.reading.specs.declared.Report.{Report}
@@ -66,13 +65,13 @@ number_one OutputLength (OfFrame r) e = of_number (OfFrame r) 3 (sym e)
 number_one BrokenRecord (OfFrame r) e = of_number (OfFrame r) 4 (sym e)
 number_one (OfFrame s) (OfFrame r) e = ap OfFrame (frame_number_one s r e)
 
-abbrev first_value : Answer → ℕ
+abbrev first_value : Result Report Refusal → ℕ
 first_value a = get_or (values_of a) 0 0
 
 pub number_exactly : (F : Family) (limit : ℕ) → NumberExactly F limit
 unfolding answer_over values_of
 number_exactly F limit u rec store out f r =
-    rw (made first_value Refused _ (read_table_over F limit u rec store out f))
+    rw (made first_value Err _ (read_table_over F limit u rec store out f))
     (first_exactly number_of 0 number_one (λ r e. omega (arith, (case_own r).1)) (read_table_over F limit u rec store out f) r)
 
 pub accepted_exactly : (F : Family) (limit : ℕ) → AcceptedExactly F limit
@@ -81,11 +80,11 @@ accepted_exactly F limit u rec store out f =
 
 pub refused_untouched : (F : Family) (limit : ℕ) → RefusedUntouched F limit
 refused_untouched F limit u rec store out f r e =
-    let l = refuses F limit u rec store out f r _ (found_cause F limit u rec store out f r e) refl in
+    let l = refuses F limit u rec store out f r (found_cause F limit u rec store out f r e) in
     record { same_record = sym l.record_left; same_store = sym l.store_left; same_output = sym l.output_left }
 
 -- a call that was accepted: what its steps could rely on, what they left, and its answer
-module _ (F : Family) (limit : ℕ) (u : SetUp) (rec : Record) (store out f : List ℕ) (a : Report) (e : answer_over F limit u rec store out f ≡ Accepted a) where
+module _ (F : Family) (limit : ℕ) (u : SetUp) (rec : Record) (store out f : List ℕ) (a : Report) (e : answer_over F limit u rec store out f ≡ Ok a) where
   relied : Ready F limit rec (frame_of u f) f store out
   relied = ready F limit u rec store out f (frame_of u f) (refl, found_none F limit u rec store out f a e)
 
@@ -112,9 +111,9 @@ pub store_octets : (F : Family) (limit : ℕ) → Roomy F limit → (u : SetUp) 
     → Octets (store_over F limit u rec store out f)
 store_octets F limit sound u rec store out f os of = go (answer_over F limit u rec store out f) refl
   where
-    go : (a : Answer) → answer_over F limit u rec store out f ≡ a → Octets (store_over F limit u rec store out f)
-    go (Refused r) e = rw (refused_untouched F limit u rec store out f r e).same_store os
-    go (Accepted a) e =
+    go : (a : Result Report Refusal) → answer_over F limit u rec store out f ≡ a → Octets (store_over F limit u rec store out f)
+    go (Err r) e = rw (refused_untouched F limit u rec store out f r e).same_store os
+    go (Ok a) e =
         rw (← (left F limit u rec store out f a e).store_left) (octets_kept F sound.laws limit sound.wide rec (frame_of u f) f store out (relied F limit u rec store out f a e) os of)
 
 pub others_apart : (F : Family) (limit : ℕ) → OthersApart F limit
@@ -186,5 +185,5 @@ accepted_values a =
 
 pub values_twenty : ValuesTwenty
 unfolding values_of
-values_twenty (Refused r) = refl
-values_twenty (Accepted a) = refl
+values_twenty (Err r) = refl
+values_twenty (Ok a) = refl

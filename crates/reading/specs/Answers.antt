@@ -1,8 +1,7 @@
 -- The paper's number and values for each case of a reading's answer (01, "When the desk says no", "What an accepted frame does").
-use Rattle.std.specs.Prelude.{List, [], ◌∷◌, ◌++◌, ℕ, replicate}
+use Rattle.std.specs.Prelude.{List, [], ◌∷◌, ◌++◌, ℕ, replicate, Result, Ok, Err}
 use Rattle.frame.specs.Answers.{number_of as frame_number_of, header_values}
-use Rattle.reading.specs.declared.Answer.{Answer}
-use Rattle.reading.specs.declared.Answer.TheVariants.{Refused, Accepted}
+use Rattle.reading.specs.declared.Report.{Report}
 use Rattle.reading.specs.declared.Refusal.{Refusal}
 use Rattle.reading.specs.declared.Refusal.TheVariants.{OfFrame, StoreLength, OutputLength, BrokenRecord}
 use Rattle.reading.specs.declared.Kind.{Kind}
@@ -23,8 +22,8 @@ kind_number Private = 3
 
 -- number (0: accepted), kind, header values, control word, gap, and the counts delivered, idle, broken, disagreement, foreign,
 -- oversize; "In reading, every other returned value is zero"
-unfoldable pub values_of : Answer → List ℕ
-values_of (Refused r) = number_of r ∷ replicate 19 0
-values_of (Accepted a) =
+unfoldable pub values_of : Result Report Refusal → List ℕ
+values_of (Err r) = number_of r ∷ replicate 19 0
+values_of (Ok a) =
     0 ∷ kind_number a.kind ∷ header_values a.header
     ++ (a.word ∷ a.gap ∷ a.delivered ∷ a.idle ∷ a.broken ∷ a.disagreement ∷ a.foreign ∷ a.oversize ∷ [])

@@ -1,6 +1,6 @@
 -- Reading a frame: the table of refusals (01, "When the desk says no"), and what one call answers and leaves behind; over a packet family and
 -- the limit of a delivered packet, and at the end for source packets and 4,096.
-use Rattle.std.specs.Prelude.{Bool, true, not, List, ◌∷◌, map, ◌≡◌, ℕ, eqb, length, get_or, set, take, drop}
+use Rattle.std.specs.Prelude.{Bool, true, not, List, ◌∷◌, map, ◌≡◌, ℕ, eqb, length, get_or, set, take, drop, Result, Ok, Err}
 use Rattle.octets.specs.Laid.{laid}
 use Rattle.octets.specs.Pick.{pick}
 use Rattle.packet.specs.Family.{Family}
@@ -17,8 +17,6 @@ use Rattle.channel.specs.State.{fresh_channel}
 use Rattle.channel.specs.Store.{store_fits, output_fits, part_of, with_part}
 use Rattle.channel.specs.declared.state.Channel.{Channel}
 use Rattle.channel.specs.declared.state.Record.{Record}
-use Rattle.reading.specs.declared.Answer.{Answer}
-use Rattle.reading.specs.declared.Answer.TheVariants.{Refused, Accepted}
 use Rattle.reading.specs.declared.Refusal.{Refusal}
 use Rattle.reading.specs.declared.Refusal.TheVariants.{OfFrame, StoreLength, OutputLength, BrokenRecord}
 use Rattle.reading.specs.declared.Report.{Report}
@@ -99,10 +97,10 @@ unfoldable pub output_after : Family → List ℕ → Done → List ℕ
 output_after F out d = laid out 0 (handed_all F d.whole)
 
 -- one call: its answer, and the record, store and output that it leaves; "A refusal returns its number; record, store and output are untouched."
-unfoldable pub answer_over : Family → ℕ → SetUp → Record → List ℕ → List ℕ → List ℕ → Answer
+unfoldable pub answer_over : Family → ℕ → SetUp → Record → List ℕ → List ℕ → List ℕ → Result Report Refusal
 answer_over F limit u rec store out f =
     let x : Frame = frame_of u f in
-    first_cause (read_table_over F limit u rec store out f) Refused (Accepted (report_of F x (channel_of x rec) (done_by F limit x rec store f)))
+    first_cause (read_table_over F limit u rec store out f) Err (Ok (report_of F x (channel_of x rec) (done_by F limit x rec store f)))
 
 unfoldable pub record_over : Family → ℕ → SetUp → Record → List ℕ → List ℕ → List ℕ → Record
 record_over F limit u rec store out f =
@@ -120,7 +118,7 @@ output_over F limit u rec store out f =
     first_cause (read_table_over F limit u rec store out f) (λ _. out) (output_after F out (done_by F limit x rec store f))
 
 -- what a call must answer and leave behind
-pub record ReadOver (F : Family) (limit : ℕ) (u : SetUp) (rec : Record) (store out f : List ℕ) (answer : Answer) (rec' : Record)
+pub record ReadOver (F : Family) (limit : ℕ) (u : SetUp) (rec : Record) (store out f : List ℕ) (answer : Result Report Refusal) (rec' : Record)
     (store' out' : List ℕ) : Type 0 where
   pub answers : answer ≡ answer_over F limit u rec store out f
   pub record_left : rec' ≡ record_over F limit u rec store out f
@@ -131,7 +129,7 @@ pub record ReadOver (F : Family) (limit : ℕ) (u : SetUp) (rec : Record) (store
 abbrev pub read_table : SetUp → Record → List ℕ → List ℕ → List ℕ → List (Row Refusal)
 read_table = read_table_over source most
 
-abbrev pub answer_of : SetUp → Record → List ℕ → List ℕ → List ℕ → Answer
+abbrev pub answer_of : SetUp → Record → List ℕ → List ℕ → List ℕ → Result Report Refusal
 answer_of = answer_over source most
 
 abbrev pub record_of : SetUp → Record → List ℕ → List ℕ → List ℕ → Record
@@ -143,5 +141,5 @@ store_of = store_over source most
 abbrev pub output_of : SetUp → Record → List ℕ → List ℕ → List ℕ → List ℕ
 output_of = output_over source most
 
-abbrev pub Read : SetUp → Record → List ℕ → List ℕ → List ℕ → Answer → Record → List ℕ → List ℕ → Type 0
+abbrev pub Read : SetUp → Record → List ℕ → List ℕ → List ℕ → Result Report Refusal → Record → List ℕ → List ℕ → Type 0
 Read = ReadOver source most

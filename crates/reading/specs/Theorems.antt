@@ -1,6 +1,6 @@
 -- What is proved of a reading, over a packet family and a limit, besides the functions' contracts. The proofs are in proofs/Laws.antt, under
 -- these names in lower case.
-use Rattle.std.specs.Prelude.{◌≡◌, true, not, List, ◌↔◌, ℕ, ◌+◌, ◌*◌, ◌<◌, eqb, length, get_or}
+use Rattle.std.specs.Prelude.{◌≡◌, true, not, List, ◌↔◌, ℕ, ◌+◌, ◌*◌, ◌<◌, eqb, length, get_or, Result, Ok, Err}
 use Rattle.octets.specs.Pick.{pick}
 use Rattle.octets.specs.Octets.{Octets}
 use Rattle.packet.specs.Family.{Family, Lawful}
@@ -15,8 +15,6 @@ use Rattle.channel.specs.State.{fresh_channel}
 use Rattle.channel.specs.Store.{part_of}
 use Rattle.channel.specs.declared.state.Record.{Record}
 use Rattle.channel.specs.declared.state.State.{State}
-use Rattle.reading.specs.declared.Answer.{Answer}
-use Rattle.reading.specs.declared.Answer.TheVariants.{Refused, Accepted}
 use Rattle.reading.specs.declared.Refusal.{Refusal}
 use Rattle.reading.specs.declared.Report.{Report}
 use Rattle.reading.specs.Answers.{kind_number, number_of, values_of}
@@ -32,42 +30,42 @@ NumberExactly F limit = (u : SetUp) (rec : Record) (store out f : List ℕ) (r :
 -- "In reading, every other returned value is zero"
 abbrev pub RefusedZero : Family → ℕ → Type 0
 RefusedZero F limit = (u : SetUp) (rec : Record) (store out f : List ℕ) (r : Refusal) (i : ℕ)
-    → answer_over F limit u rec store out f ≡ Refused r → get_or (values_of (answer_over F limit u rec store out f)) (i + 1) 0 ≡ 0
+    → answer_over F limit u rec store out f ≡ Err r → get_or (values_of (answer_over F limit u rec store out f)) (i + 1) 0 ≡ 0
 
 -- the twenty values of an accepted frame's answer, by their places: the number 0, the kind, the header's values but the version in the order of
 -- "Layouts" with flags as 1 and 0, control word, gap, and the counts
 pub record TwentyValues (a : Report) : Type 0 where
-  pub number : get_or (values_of (Accepted a)) 0 0 ≡ 0
-  pub kind : get_or (values_of (Accepted a)) 1 0 ≡ kind_number a.kind
-  pub spacecraft : get_or (values_of (Accepted a)) 2 0 ≡ a.header.spacecraft
-  pub channel : get_or (values_of (Accepted a)) 3 0 ≡ a.header.channel
-  pub flagged : get_or (values_of (Accepted a)) 4 0 ≡ pick a.header.flagged 1 0
-  pub master : get_or (values_of (Accepted a)) 5 0 ≡ a.header.master.0
-  pub count : get_or (values_of (Accepted a)) 6 0 ≡ a.header.count.0
-  pub secondary : get_or (values_of (Accepted a)) 7 0 ≡ pick a.header.secondary 1 0
-  pub synchronisation : get_or (values_of (Accepted a)) 8 0 ≡ pick a.header.synchronisation 1 0
-  pub order : get_or (values_of (Accepted a)) 9 0 ≡ pick a.header.order 1 0
-  pub segment : get_or (values_of (Accepted a)) 10 0 ≡ a.header.segment
-  pub pointer : get_or (values_of (Accepted a)) 11 0 ≡ a.header.pointer
-  pub word : get_or (values_of (Accepted a)) 12 0 ≡ a.word
-  pub gap : get_or (values_of (Accepted a)) 13 0 ≡ a.gap
-  pub delivered : get_or (values_of (Accepted a)) 14 0 ≡ a.delivered
-  pub idle : get_or (values_of (Accepted a)) 15 0 ≡ a.idle
-  pub broken : get_or (values_of (Accepted a)) 16 0 ≡ a.broken
-  pub disagreement : get_or (values_of (Accepted a)) 17 0 ≡ a.disagreement
-  pub foreign : get_or (values_of (Accepted a)) 18 0 ≡ a.foreign
-  pub oversize : get_or (values_of (Accepted a)) 19 0 ≡ a.oversize
+  pub number : get_or (values_of (Ok a)) 0 0 ≡ 0
+  pub kind : get_or (values_of (Ok a)) 1 0 ≡ kind_number a.kind
+  pub spacecraft : get_or (values_of (Ok a)) 2 0 ≡ a.header.spacecraft
+  pub channel : get_or (values_of (Ok a)) 3 0 ≡ a.header.channel
+  pub flagged : get_or (values_of (Ok a)) 4 0 ≡ pick a.header.flagged 1 0
+  pub master : get_or (values_of (Ok a)) 5 0 ≡ a.header.master.0
+  pub count : get_or (values_of (Ok a)) 6 0 ≡ a.header.count.0
+  pub secondary : get_or (values_of (Ok a)) 7 0 ≡ pick a.header.secondary 1 0
+  pub synchronisation : get_or (values_of (Ok a)) 8 0 ≡ pick a.header.synchronisation 1 0
+  pub order : get_or (values_of (Ok a)) 9 0 ≡ pick a.header.order 1 0
+  pub segment : get_or (values_of (Ok a)) 10 0 ≡ a.header.segment
+  pub pointer : get_or (values_of (Ok a)) 11 0 ≡ a.header.pointer
+  pub word : get_or (values_of (Ok a)) 12 0 ≡ a.word
+  pub gap : get_or (values_of (Ok a)) 13 0 ≡ a.gap
+  pub delivered : get_or (values_of (Ok a)) 14 0 ≡ a.delivered
+  pub idle : get_or (values_of (Ok a)) 15 0 ≡ a.idle
+  pub broken : get_or (values_of (Ok a)) 16 0 ≡ a.broken
+  pub disagreement : get_or (values_of (Ok a)) 17 0 ≡ a.disagreement
+  pub foreign : get_or (values_of (Ok a)) 18 0 ≡ a.foreign
+  pub oversize : get_or (values_of (Ok a)) 19 0 ≡ a.oversize
 
 abbrev pub AcceptedValues : Type 0
 AcceptedValues = (a : Report) → TwentyValues a
 
 abbrev pub ValuesTwenty : Type 0
-ValuesTwenty = (o : Answer) → length (values_of o) ≡ 20
+ValuesTwenty = (o : Result Report Refusal) → length (values_of o) ≡ 20
 
 -- a frame is accepted exactly when no cause holds
 abbrev pub AcceptedExactly : Family → ℕ → Type 0
 AcceptedExactly F limit = (u : SetUp) (rec : Record) (store out f : List ℕ)
-    → ((a : Report) × (answer_over F limit u rec store out f ≡ Accepted a)) ↔ None (read_table_over F limit u rec store out f)
+    → ((a : Report) × (answer_over F limit u rec store out f ≡ Ok a)) ↔ None (read_table_over F limit u rec store out f)
 
 -- "record, store and output are untouched"
 pub record Untouched (F : Family) (limit : ℕ) (u : SetUp) (rec : Record) (store out f : List ℕ) : Type 0 where
@@ -77,7 +75,7 @@ pub record Untouched (F : Family) (limit : ℕ) (u : SetUp) (rec : Record) (stor
 
 abbrev pub RefusedUntouched : Family → ℕ → Type 0
 RefusedUntouched F limit = (u : SetUp) (rec : Record) (store out f : List ℕ) (r : Refusal)
-    → answer_over F limit u rec store out f ≡ Refused r → Untouched F limit u rec store out f
+    → answer_over F limit u rec store out f ≡ Err r → Untouched F limit u rec store out f
 
 -- every accepted frame keeps the rules of the record, and the lengths
 pub record Keeps (F : Family) (limit : ℕ) (u : SetUp) (rec : Record) (store out f : List ℕ) : Type 0 where
@@ -88,7 +86,7 @@ pub record Keeps (F : Family) (limit : ℕ) (u : SetUp) (rec : Record) (store ou
 
 abbrev pub AcceptedKeeps : Family → ℕ → Type 0
 AcceptedKeeps F limit = Roomy F limit → (u : SetUp) (rec : Record) (store out f : List ℕ) (a : Report) → Octets store → Octets f
-    → length rec.channels ≡ channels → answer_over F limit u rec store out f ≡ Accepted a → Keeps F limit u rec store out f
+    → length rec.channels ≡ channels → answer_over F limit u rec store out f ≡ Ok a → Keeps F limit u rec store out f
 
 -- only the frame's own channel and its part of the store can change
 pub record Apart (F : Family) (limit : ℕ) (u : SetUp) (rec : Record) (store out f : List ℕ) (w : ℕ) : Type 0 where
@@ -97,7 +95,7 @@ pub record Apart (F : Family) (limit : ℕ) (u : SetUp) (rec : Record) (store ou
 
 abbrev pub OthersApart : Family → ℕ → Type 0
 OthersApart F limit = Roomy F limit → (u : SetUp) (rec : Record) (store out f : List ℕ) (a : Report) (w : ℕ)
-    → answer_over F limit u rec store out f ≡ Accepted a → w < channels → (w ≡ a.header.channel → ⊥) → Apart F limit u rec store out f w
+    → answer_over F limit u rec store out f ≡ Ok a → w < channels → (w ≡ a.header.channel → ⊥) → Apart F limit u rec store out f w
 
 -- step 1: "Heard and last count are set", of the record before and after a frame with header h that left its channel in this state
 pub record HeardInWords (h : Header) (state : State) (before after : Record) : Type 0 where
@@ -111,7 +109,7 @@ pub record HeardInWords (h : Header) (state : State) (before after : Record) : T
 -- so of every accepted frame, with the state of steps 1 to 5
 abbrev pub HeardInWordsLaw : Family → ℕ → Type 0
 HeardInWordsLaw F limit = (u : SetUp) (rec : Record) (store out f : List ℕ) (a : Report) → length rec.channels ≡ channels
-    → answer_over F limit u rec store out f ≡ Accepted a
+    → answer_over F limit u rec store out f ≡ Ok a
     → HeardInWords a.header (done_by F limit (frame_of u f) rec store f).state rec (record_over F limit u rec store out f)
 
 -- a skip ended in this frame: it carries packets, there is no gap, and the channel skipped to a place within the field
@@ -124,5 +122,5 @@ skip_ended x rec =
 -- each finished packet, and a skip that ended, takes at least the octets of the least packet, but for those of an earlier frame; so with
 -- source packets "Delivered plus idle is at most D / 7 rounded up"
 abbrev pub FewEnoughLaw : Family → ℕ → Type 0
-FewEnoughLaw F limit = Lawful F → (u : SetUp) (rec : Record) (store out f : List ℕ) (a : Report) → answer_over F limit u rec store out f ≡ Accepted a
+FewEnoughLaw F limit = Lawful F → (u : SetUp) (rec : Record) (store out f : List ℕ) (a : Report) → answer_over F limit u rec store out f ≡ Ok a
     → F.least * (a.delivered + a.idle + skip_ended (frame_of u f) rec) < (frame_of u f).size + F.least

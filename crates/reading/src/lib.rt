@@ -4,6 +4,7 @@
 
 ghost use Rattle.std.specs.Prelude.{◌≡◌};
 ghost use Rattle.reading.specs.Answers.{number_of};
+ghost use Rattle.reading.specs.declared.Refusal.TheVariants.{OfFrame};
 
 use channel::Record;
 use frame::Header;
@@ -11,9 +12,9 @@ use frame::Header;
 // What a frame carries: packets, idle data only, or private data.
 #[derive(Clone, Copy)]
 pub enum Kind {
-    Packets,
-    Idle,
-    Private,
+    Packets = 1,
+    Idle = 2,
+    Private = 3,
 }
 
 // Why a call is refused: what the frame part says, or one of the reader's own tests.
@@ -26,7 +27,7 @@ pub enum Refusal {
 }
 
 impl Refusal {
-    // The paper's number.
+    // The paper's number. By a match and no discriminants: a refusal of the frame part has its own.
     pub fn number(self) -> u32
         ensures { result ≡ number_of self }
     {
@@ -39,7 +40,15 @@ impl Refusal {
     }
 }
 
-// The answer of an accepted frame.
+impl From<frame::Refusal> for Refusal {
+    ghost from_gives = { λ refusal e. e ≡ OfFrame refusal };
+
+    fn from(refusal: frame::Refusal) -> Refusal {
+        Self::OfFrame(refusal)
+    }
+}
+
+// The answer of an accepted frame. Its control word is 0 if not flagged, as the frame's.
 #[derive(Clone, Copy)]
 pub struct Report {
     pub kind: Kind,
@@ -54,15 +63,9 @@ pub struct Report {
     pub oversize: usize,
 }
 
-#[derive(Clone, Copy)]
-pub enum Answer {
-    Refused(Refusal),
-    Accepted(Report),
-}
-
-// What a call by value gives back: its answer, and the record from now on.
+// What a call by value gives back: its answer, and the record from now on, which a refusal gives back as it came.
 #[derive(Clone, Copy)]
 pub struct Outcome {
-    pub answer: Answer,
+    pub answer: Result<Report, Refusal>,
     pub after: Record,
 }

@@ -6,55 +6,40 @@ ghost use Rattle.packet.specs.Size.{most, size_of, source};
 ghost use Rattle.channel.specs.Rules.{judged, state_follows, channel_follows, record_follows};
 
 use channel::{Channel, Record, State, Store};
-use frame::Header;
 use packet::{Packet, Size};
 
 // What the held octets must tell.
+#[tactic(auto, using(packet::proofs::Laws::fits_by_limit), unfolding(channel::specs::Rules::judged))]
 fn held_follows(held: &[u8]) -> bool
     ensures { result ≡ judged most (length held.now) (size_of held.now) }
 {
     match Packet::size(held) {
         Size::Wait => true,
         Size::Foreign => false,
-        Size::Total(total) => {
-            if held.len() < total {
-                Packet::fits(total)
-            } else {
-                false
-            }
-        }
+        Size::Total(total) => held.len() < total && Packet::fits(total),
     }
 }
 
 // The k octets gathered lie at the start of the part.
+#[tactic(auto, unfolding(channel::specs::Rules::state_follows))]
 fn gathering_follows(k: usize, part: &[u8]) -> bool
     ensures { result ≡ state_follows source most part.now (State.Gathering k) }
 {
-    if Packet::MAX <= k {
-        return false;
-    }
-    if part.len() < k {
-        return false;
-    }
-    held_follows(&part[..k])
+    k < Packet::MAX && k <= part.len() && held_follows(&part[..k])
 }
 
+#[tactic(auto, unfolding(channel::specs::Rules::state_follows))]
 fn state_follows(state: State, part: &[u8]) -> bool
     ensures { result ≡ state_follows source most part.now state }
 {
     match state {
         State::Hunting => true,
         State::Gathering(k) => gathering_follows(k, part),
-        State::Skipping(r) => {
-            if r < 1 {
-                false
-            } else {
-                r <= Packet::FORMAT_MAX - Packet::HEADER
-            }
-        }
+        State::Skipping(r) => 1 <= r && r <= Packet::FORMAT_MAX - Packet::HEADER,
     }
 }
 
+#[tactic(auto, unfolding(channel::specs::Rules::channel_follows, channel::specs::Rules::hunts))]
 fn channel_follows(channel: Channel, part: &[u8]) -> bool
     ensures { result ≡ channel_follows source most part.now channel }
 {
@@ -62,11 +47,7 @@ fn channel_follows(channel: Channel, part: &[u8]) -> bool
     if channel.heard {
         state_follows(state, part)
     } else {
-        match state {
-            State::Hunting => true,
-            State::Gathering(_) => false,
-            State::Skipping(_) => false,
-        }
+        matches!(state, State::Hunting)
     }
 }
 
@@ -74,16 +55,13 @@ fn channel_follows(channel: Channel, part: &[u8]) -> bool
 pub fn follows(rec: Record, store: &[u8]) -> bool
     ensures { result ≡ record_follows source most store.now rec }
 {
-    let mut v = 0;
-    while v < Header::CHANNELS {
+    for (v, channel) in rec.channels.iter().enumerate() {
         let place = Store::place(v);
         let at = octets::lesser(place, store.len());
         let end = octets::lesser(place + Store::PART, store.len());
-        let channel = rec.channels[v];
-        if !channel_follows(channel, &store[at..end]) {
+        if !channel_follows(*channel, &store[at..end]) {
             return false;
         }
-        v += 1;
     }
     true
 }

@@ -1,9 +1,7 @@
-use lines::text;
-
+// ./scowdeck prints this text from here.
 pub fn help(rt: &impl Print) {
-    text(
-        rt,
-        b"scowdeck FILE LENGTH SPACECRAFT CHECK OUT
+    let _ = rt.print(
+        "scowdeck FILE LENGTH SPACECRAFT CHECK OUT
 
 Reads the telemetry frames that lie end to end in FILE and writes the packets of
 virtual channel v to the file OUT.v, v being 0 to 7, one behind the other.

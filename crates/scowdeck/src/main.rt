@@ -9,7 +9,7 @@ mod summary;
 mod words;
 
 use lines::complain;
-use words::{is_given, same, word_at};
+use words::{is_given, word_at};
 
 // Five words behind the program's name.
 fn five_words(rt: &HostRuntime) -> bool {
@@ -17,22 +17,19 @@ fn five_words(rt: &HostRuntime) -> bool {
 }
 
 fn asked_for_help(rt: &HostRuntime) -> bool {
-    let mut word = [0u8; 8];
-    let n = word_at(rt, 1, &mut word);
-    same(&word[..n], b"--help")
+    let mut room = [0u8; 8];
+    word_at(rt, 1, &mut room).is_ok_and(|word| word == b"--help".as_slice())
 }
 
 fn main(rt: HostRuntime) {
     if five_words(&rt) {
         starting::start(&rt);
-        return;
-    }
-    if asked_for_help(&rt) {
+    } else if asked_for_help(&rt) {
         help::help(&rt);
-        return;
+    } else {
+        complain(
+            &rt.stderr(),
+            "five words are wanted: FILE LENGTH SPACECRAFT CHECK OUT; scowdeck --help says more",
+        );
     }
-    complain(
-        &rt.stderr(),
-        b"five words are wanted: FILE LENGTH SPACECRAFT CHECK OUT; scowdeck --help says more",
-    );
 }

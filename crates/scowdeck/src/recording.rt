@@ -1,166 +1,111 @@
 // The loop over the frames of a recording.
-ghost use Rattle.std.specs.Prelude.{◌≡◌};
+ghost use Rattle.std.specs.Prelude.{◌≡◌, ◌≤◌, length};
 ghost use Rattle.keeping.specs.Keeping.{Keeps};
 
 use channel::{Output, Store};
 use desk::{Desk, Saved};
-use files::{save, within};
+use files::save;
 use frame::SetUp;
 use input::read_full;
 use keeping::{Work, step};
 use lines::{accepted, blame, complain, refused};
-use reading::{Answer, Report};
+use reading::Report;
 use std::fs::File;
 use std::io::Read;
+
+// What a run over a recording keeps from frame to frame. Arrays: the program never stops for lack of memory.
+#[derive(Drop)]
+pub struct Run {
+    set: SetUp,
+    store: [u8; Store::LEN],
+    output: [u8; Output::MIN],
+    pub work: Work,
+    pub files: [File; 8],
+}
+
+impl Run {
+    pub fn new(set: SetUp, files: [File; 8]) -> Run {
+        Run {
+            set,
+            store: [0; Store::LEN],
+            output: [0; Output::MIN],
+            work: Work {
+                desk: Desk::fresh(),
+                saved: [Saved::default(); 8],
+                complete: true,
+            },
+            files,
+        }
+    }
+
+    // An accepted frame, with so many octets of packets: they are written before its line, so that no line tells of packets that are
+    // not in the file.
+    fn accept(&mut self, rt: &HostRuntime, r: Report, octets: usize)
+        requires { octets ≤ length self.old.output }
+        ensures desk { self.new.work.desk ≡ self.old.work.desk }
+        ensures store { self.new.store ≡ self.old.store }
+        ensures set { self.new.set ≡ self.old.set }
+    {
+        let v = r.header.channel % 8;
+        let packets = &self.output[..octets];
+        let before = self.work.saved[v];
+        self.work.saved[v] = save(&rt.stderr(), &mut self.files[v], v, before, packets);
+        accepted(rt, self.work.desk.totals.frames, r);
+    }
+
+    // One frame: what the desk answers is said, and the packets are saved.
+    fn one(&mut self, rt: &HostRuntime, frame: &[u8])
+        ensures kept { Keeps self.old.set self.old.work.desk self.old.store self.old.output frame.now self.new.work.desk self.new.store }
+        ensures set { self.new.set ≡ self.old.set }
+    {
+        let stepped = step(
+            self.work,
+            self.set,
+            frame,
+            &mut self.store,
+            &mut self.output,
+        );
+        self.work = stepped.work;
+        match stepped.answer {
+            Err(refusal) => refused(rt, self.work.desk.totals.frames, frame.len(), refusal),
+            Ok(r) => self.accept(rt, r, stepped.octets),
+        }
+    }
+
+    // All frames of the recording; the last may be short, and is refused then. A proved loop has to end, so the turns are counted,
+    // up to a number that no recording reaches.
+    fn frames(&mut self, rt: &HostRuntime, file: &mut File) {
+        let mut room = [0u8; SetUp::MAX];
+        // The length, which is at most MAX in a set-up that fits.
+        let n = self.set.length.min(SetUp::MAX);
+        for _ in 0..u64::MAX {
+            let got = read_full(file, &mut room[..n]);
+            if got == 0 {
+                return;
+            }
+            self.one(rt, &room[..got]);
+            if got < n {
+                return;
+            }
+        }
+    }
+
+    pub fn read_all(&mut self, rt: &HostRuntime, file: &mut File, path: &[u8]) {
+        self.frames(rt, file);
+        self.work.complete = ended(rt, file, path);
+    }
+}
 
 // Whether the recording ended where the frames did; if not, why is said.
 fn ended(rt: &HostRuntime, file: &mut File, path: &[u8]) -> bool {
     let mut more = [0u8; 1];
     match file.read(&mut more) {
-        Ok(0) => true,
-        Ok(_) => {
-            complain(
-                &rt.stderr(),
-                b"reading stopped: the recording is still growing",
-            );
-            false
-        }
-        Err(why) => {
-            blame(&rt.stderr(), b"reading stopped: ", path, why);
-            false
-        }
+        Ok(0) => return true,
+        Ok(_) => complain(
+            &rt.stderr(),
+            "reading stopped: the recording is still growing",
+        ),
+        Err(why) => blame(&rt.stderr(), "reading stopped: ", path, why),
     }
-}
-
-fn start() -> Work {
-    let nothing = Saved {
-        octets: 0,
-        failed: false,
-    };
-    Work {
-        desk: Desk::fresh(),
-        saved: [nothing; 8],
-        complete: true,
-    }
-}
-
-// An accepted frame: its packets are written before its line, so that no line tells of packets that are not in the file.
-fn accept(
-    rt: &HostRuntime,
-    work: Work,
-    number: u64,
-    r: Report,
-    packets: &[u8],
-    files: &mut [File; 8],
-) -> Work
-    ensures { result.desk ≡ work.desk }
-{
-    let h = r.header;
-    let v = h.channel % 8;
-    let before = work.saved[v];
-    let mut next = work;
-    next.saved[v] = save(&rt.stderr(), &mut files[v], v, before, packets);
-    accepted(rt, number, r);
-    next
-}
-
-// What the desk answered of a frame of so many octets is said, and its packets are saved.
-fn tell(
-    rt: &HostRuntime,
-    work: Work,
-    answer: Answer,
-    octets: usize,
-    packets: &[u8],
-    files: &mut [File; 8],
-) -> Work
-    ensures { result.desk ≡ work.desk }
-{
-    let desk = work.desk;
-    let totals = desk.totals;
-    match answer {
-        Answer::Refused(refusal) => {
-            refused(rt, totals.frames, octets, refusal);
-            work
-        }
-        Answer::Accepted(r) => accept(rt, work, totals.frames, r, packets, files),
-    }
-}
-
-// One frame.
-fn one(
-    rt: &HostRuntime,
-    work: Work,
-    set: SetUp,
-    frame: &[u8],
-    store: &mut [u8; Store::LEN],
-    output: &mut [u8; Output::MIN],
-    files: &mut [File; 8],
-) -> Work
-    ensures { Keeps set work.desk store.old output.old frame.now result.desk store.new }
-{
-    let stepped = step(work, set, frame, store, output);
-    let next = stepped.work;
-    let answer = stepped.answer;
-    let n = stepped.octets;
-    let all: &[u8] = output;
-    tell(rt, next, answer, frame.len(), &all[0..n], files)
-}
-
-fn fill(file: &mut File, frame: &mut [u8], n: usize) -> usize {
-    let k = within(n, frame.len());
-    read_full(file, &mut frame[0..k])
-}
-
-// Reads n octets, or as many as are left.
-fn fetch(file: &mut File, frame: &mut [u8; SetUp::MAX], n: usize) -> usize {
-    fill(file, frame, n)
-}
-
-// The same of the first `got` octets.
-fn pass(
-    rt: &HostRuntime,
-    work: Work,
-    set: SetUp,
-    frame: &[u8; SetUp::MAX],
-    got: usize,
-    store: &mut [u8; Store::LEN],
-    output: &mut [u8; Output::MIN],
-    files: &mut [File; 8],
-) -> Work {
-    let all: &[u8] = frame;
-    let k = within(got, all.len());
-    one(rt, work, set, &all[0..k], store, output, files)
-}
-
-// All frames of the recording; the last may be short, and is refused then. A proved loop has to end, so the turns are counted,
-// up to a number that no recording reaches.
-fn frames(rt: &HostRuntime, file: &mut File, set: SetUp, files: &mut [File; 8]) -> Work {
-    let mut store = [0u8; Store::LEN];
-    let mut output = [0u8; Output::MIN];
-    let mut frame = [0u8; SetUp::MAX];
-    let n = set.length;
-    let mut work = start();
-    for _ in 0..u64::MAX {
-        let got = fetch(file, &mut frame, n);
-        if got == 0 {
-            return work;
-        }
-        work = pass(rt, work, set, &frame, got, &mut store, &mut output, files);
-        if got < n {
-            return work;
-        }
-    }
-    work
-}
-
-pub fn read_all(
-    rt: &HostRuntime,
-    file: &mut File,
-    set: SetUp,
-    path: &[u8],
-    files: &mut [File; 8],
-) -> Work {
-    let mut work = frames(rt, file, set, files);
-    work.complete = ended(rt, file, path);
-    work
+    false
 }

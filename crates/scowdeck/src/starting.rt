@@ -1,91 +1,39 @@
 // From the words of the command line to an open recording and eight files.
-use crate::recording::read_all;
+use crate::recording::Run;
 use crate::summary::summary;
-use crate::words::{Choice, chosen, word_at};
-use desk::{Number, spelt};
-use files::{OUT_MAX, PATH_MAX, make_all, open};
+use crate::words::{parsed_at, word_at, yes_or_no};
+use desk::spelt;
+use files::{Out, PATH_MAX, make_all, open};
 use frame::SetUp;
-use lines::{blame, complain};
+use lines::{Reason, blame, complain};
 use std::env::FillError;
-use std::fs::File;
-use std::io;
-use std::rt::Env;
+use std::{fmt, io};
 
+// What is wrong with the words of the command line.
 #[derive(Clone, Copy)]
-enum Given {
-    Whole(SetUp),
-    Bad,
+enum WordsError {
+    Length,
+    Spacecraft,
+    Check,
+    SetUp,
+    // FILE or OUT is none that a path has room for.
+    Path(&'static str, FillError),
+    OutEmpty,
+    OutTooLong,
 }
 
-// A word of the command line as a number.
-fn number_at(rt: &HostRuntime, i: usize) -> Number {
-    let mut word = [0u8; 16];
-    let n = word_at(rt, i, &mut word);
-    spelt(&word[..n])
-}
-
-fn choice_at(rt: &HostRuntime, i: usize) -> Choice {
-    let mut word = [0u8; 16];
-    let n = word_at(rt, i, &mut word);
-    chosen(&word[..n])
-}
-
-// A spacecraft number, any that is too large for the set-up staying too large.
-fn spacecraft(n: usize) -> u32 {
-    if n <= 4294967295 { n as u32 } else { u32::MAX }
-}
-
-fn with_check(rt: &HostRuntime, length: usize, craft: usize) -> Given {
-    match choice_at(rt, 4) {
-        Choice::Bad => {
-            complain(&rt.stderr(), b"CHECK is yes or no");
-            Given::Bad
-        }
-        Choice::Yes => Given::Whole(SetUp {
-            length,
-            spacecraft: spacecraft(craft),
-            error_control: true,
-        }),
-        Choice::No => Given::Whole(SetUp {
-            length,
-            spacecraft: spacecraft(craft),
-            error_control: false,
-        }),
-    }
-}
-
-fn with_spacecraft(rt: &HostRuntime, length: usize) -> Given {
-    match number_at(rt, 3) {
-        Number::Bad => {
-            complain(&rt.stderr(), b"SPACECRAFT is a number, 0 to 1023");
-            Given::Bad
-        }
-        Number::Value(n) => with_check(rt, length, n),
-    }
-}
-
-fn set_up_given(rt: &HostRuntime) -> Given {
-    match number_at(rt, 2) {
-        Number::Bad => {
-            complain(&rt.stderr(), b"LENGTH is a number, 13 to 2048");
-            Given::Bad
-        }
-        Number::Value(n) => with_spacecraft(rt, n),
-    }
-}
-
-pub fn start(rt: &HostRuntime) {
-    match set_up_given(rt) {
-        Given::Bad => {}
-        Given::Whole(set) => {
-            if set.fits() {
-                with_set_up(rt, set);
-            } else {
-                complain(
-                    &rt.stderr(),
-                    b"refused=1: LENGTH is not 13 to 2048, or SPACECRAFT is above 1023",
-                );
-            }
+impl fmt::Display for WordsError {
+    fn fmt<W: fmt::Write>(&self, f: &mut fmt::Formatter<W>) -> fmt::Result {
+        match self {
+            WordsError::Length => f.write_str("LENGTH is a number, 13 to 2048"),
+            WordsError::Spacecraft => f.write_str("SPACECRAFT is a number, 0 to 1023"),
+            WordsError::Check => f.write_str("CHECK is yes or no"),
+            WordsError::SetUp => f.write_str(
+                "refused=1: LENGTH is not 13 to 2048, or SPACECRAFT is above 1023",
+            ),
+            WordsError::Path(name, why) => write!(f, "{name}: {}", Reason(path_error(*why))),
+            WordsError::OutEmpty => f.write_str("OUT is empty"),
+            WordsError::OutTooLong => f.write_str("OUT is too long"),
         }
     }
 }
@@ -95,52 +43,72 @@ const ENAMETOOLONG: i32 = 36;
 
 const EINVAL: i32 = 22;
 
-fn word_error(why: FillError) -> io::Error {
-    match why {
-        FillError::TooLong => io::Error::from_raw_os_error(ENAMETOOLONG),
-        FillError::NotPresent => io::Error::from_raw_os_error(EINVAL),
+fn path_error(why: FillError) -> io::Error {
+    io::Error::from_raw_os_error(match why {
+        FillError::TooLong => ENAMETOOLONG,
+        FillError::NotPresent => EINVAL,
+    })
+}
+
+// Why no frame is read: the words, or the recording that FILE names, whose path may be no text.
+#[derive(Clone, Copy)]
+enum StartError<'a> {
+    Words(WordsError),
+    Open(&'a [u8], io::Error),
+}
+
+impl From<WordsError> for StartError<'_> {
+    fn from(why: WordsError) -> Self {
+        StartError::Words(why)
     }
 }
 
-fn with_set_up(rt: &HostRuntime, set: SetUp) {
-    let mut path = [0u8; PATH_MAX];
-    match rt.arg(1, &mut path) {
-        Ok(n) => with_path(rt, set, &path[..n]),
-        Err(why) => blame(&rt.stderr(), b"", b"FILE", word_error(why)),
+// The set-up that the words LENGTH, SPACECRAFT and CHECK give. A spacecraft number that is too large for a u32 stays too large.
+fn set_up(rt: &HostRuntime) -> Result<SetUp, WordsError> {
+    // A closure and not `spelt` itself, which stands in a private module of its crate.
+    let length = parsed_at(rt, 2, |word| spelt(word)).ok_or(WordsError::Length)?;
+    let spacecraft = parsed_at(rt, 3, |word| spelt(word)).ok_or(WordsError::Spacecraft)?;
+    let error_control = parsed_at(rt, 4, yes_or_no).ok_or(WordsError::Check)?;
+    let set = SetUp {
+        length,
+        spacecraft: u32::try_from(spacecraft).unwrap_or(u32::MAX),
+        error_control,
+    };
+    if set.fits() {
+        Ok(set)
+    } else {
+        Err(WordsError::SetUp)
     }
 }
 
-fn with_path(rt: &HostRuntime, set: SetUp, path: &[u8]) {
-    match open(rt, path) {
-        Ok(mut file) => with_recording(rt, &mut file, set, path),
-        Err(why) => blame(&rt.stderr(), b"cannot open ", path, why),
+fn out(rt: &HostRuntime) -> Result<Out, WordsError> {
+    let mut room = [0u8; PATH_MAX];
+    let word = word_at(rt, 5, &mut room).map_err(|why| WordsError::Path("OUT", why))?;
+    if word.is_empty() {
+        return Err(WordsError::OutEmpty);
     }
+    Out::of(word).ok_or(WordsError::OutTooLong)
 }
 
-fn with_recording(rt: &HostRuntime, file: &mut File, set: SetUp, path: &[u8]) {
-    let mut out = [0u8; PATH_MAX];
-    match rt.arg(5, &mut out) {
-        Ok(n) => with_out(rt, file, set, path, &mut out, n),
-        Err(why) => blame(&rt.stderr(), b"", b"OUT", word_error(why)),
+// Reads the recording, with the room for its path.
+fn run<'a>(rt: &HostRuntime, room: &'a mut [u8; PATH_MAX]) -> Result<(), StartError<'a>> {
+    let set = set_up(rt)?;
+    let path = word_at(rt, 1, room).map_err(|why| WordsError::Path("FILE", why))?;
+    let mut file = open(rt, path).map_err(|why| StartError::Open(path, why))?;
+    let out = out(rt)?;
+    if let Some(files) = make_all(rt, &rt.stderr(), &out) {
+        let mut run = Run::new(set, files);
+        run.read_all(rt, &mut file, path);
+        summary(rt, &run, &out);
     }
+    Ok(())
 }
 
-fn with_out(
-    rt: &HostRuntime,
-    file: &mut File,
-    set: SetUp,
-    path: &[u8],
-    out: &mut [u8; PATH_MAX],
-    n: usize,
-) {
-    if n == 0 {
-        return complain(&rt.stderr(), b"OUT is empty");
-    }
-    if OUT_MAX < n {
-        return complain(&rt.stderr(), b"OUT is too long");
-    }
-    if let Some(mut files) = make_all(rt, &rt.stderr(), out, n) {
-        let work = read_all(rt, file, set, path, &mut files);
-        summary(rt, work, out, n, &files);
+pub fn start(rt: &HostRuntime) {
+    let mut room = [0u8; PATH_MAX];
+    match run(rt, &mut room) {
+        Ok(()) => {}
+        Err(StartError::Words(why)) => complain(&rt.stderr(), why),
+        Err(StartError::Open(path, why)) => blame(&rt.stderr(), "cannot open ", path, why),
     }
 }

@@ -12,87 +12,52 @@
 // ends with an error, and not here.
 #![tactic(auto)]
 
+mod commands;
+mod given;
 mod hex;
 mod packets;
-mod printing;
 mod walks;
 mod words;
 
-ghost use Rattle.std.specs.Prelude.{◌≤◌, length};
-
-use hex::ROOM;
+use commands::{Command, read};
+use given::Given;
 use input::read_full;
-use printing::{end_line, text};
-use words::{end, find, number};
+use std::io;
 
-// `a` and `b` are the second and the third word as numbers, whether they are meant as such or not.
-fn perform(rt: &impl Print, letter: u8, a: usize, b: usize, given: &[u8]) {
-    match letter {
-        b'c' => packets::chain(rt, given),
-        b'd' => packets::distance(rt, a, given),
-        b'g' => packets::gap(rt, a, b),
-        b'h' => packets::header(rt, given),
-        b's' => packets::size(rt, given),
-        _ => walks::walk(rt, a, b, given),
+fn perform(rt: &impl Print, command: Command, octets: &[u8]) -> io::Result<()> {
+    match command {
+        Command::Chain => packets::chain(rt, octets),
+        Command::Distance(offset) => packets::distance(rt, offset, octets),
+        Command::Gap(count, last) => packets::gap(rt, count, last),
+        Command::Header => packets::header(rt, octets),
+        Command::Size => packets::size(rt, octets),
+        Command::Walk(from, limit) => walks::walk(rt, from, limit, octets),
     }
 }
 
-// Where a line's octets start: after the name, after one number, or after two.
-fn octets_from(letter: u8, name: usize, one: usize, two: usize) -> usize
-    requires { (name ≤ two) × (one ≤ two) }
-    ensures { result ≤ two }
-{
-    match letter {
-        b'd' => one,
-        b'g' => two,
-        b'w' => two,
-        _ => name,
+fn interpret(rt: &impl Print, line: &[u8], given: &mut Given) -> io::Result<()> {
+    match line {
+        [] => Ok(()),
+        [b'#', ..] => rt.write_all(line),
+        [letter, rest @ ..] => {
+            let (command, words) = read(*letter, rest);
+            given.take(words);
+            perform(rt, command, given.octets())
+        }
     }
 }
 
-fn case(rt: &impl Print, s: &[u8], given: &mut [u8; ROOM])
-    requires { 1 ≤ length s.now }
-{
-    let letter = s[0];
-    let name = end(s, 0);
-    let one = end(s, name);
-    let two = end(s, one);
-    let from = octets_from(letter, name, one, two);
-    let n = hex::words(&s[from..], given);
-    let all: &[u8] = given;
-    perform(
-        rt,
-        letter,
-        number(&s[name..one]),
-        number(&s[one..two]),
-        &all[0..n],
-    );
-}
-
-fn interpret(rt: &impl Print, s: &[u8], given: &mut [u8; ROOM]) {
-    if s.len() == 0 {
-        return;
-    }
-    if s[0] == b'#' {
-        return text(rt, s);
-    }
-    case(rt, s, given);
-}
-
-// Line by line.
-fn run_script(rt: &impl Print, s: &[u8]) {
-    let mut given = [0u8; ROOM];
-    let mut at = 0;
-    while at < s.len() {
-        let end = find(s, at, b'\n');
-        interpret(rt, &s[at..end], &mut given);
-        end_line(rt);
-        at = end + 1;
+// Line by line; the last needs no end. What cannot be written is lost.
+fn run_script(rt: &impl Print, script: &[u8]) {
+    let mut given = Given::new();
+    for line in script.split_inclusive(|b| *b == b'\n') {
+        let _ = interpret(rt, line.strip_suffix(b"\n").unwrap_or(line), &mut given);
+        let _ = println!(rt);
     }
 }
 
 fn main(rt: HostRuntime) {
-    let mut script = [0u8; 16384];
+    let mut script = [0; 16384];
     let n = read_full(&mut rt.stdin(), &mut script);
     run_script(&rt, &script[..n]);
 }

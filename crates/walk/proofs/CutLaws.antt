@@ -6,41 +6,37 @@ use mathlib.Core.List.{List, [], ◌∷◌}
 use Prim.Native.Nat.{ℕ, ◌+◌, ◌-◌, ◌≤◌}
 use native.Mathlib.Omega.{arith}
 use lib.Dec.{eqb, ltb, leb}
-use lib.ListN.{length, take, drop, length-drop}
-use lib.Seq.{take_all, drop-drop}
+use lib.ListN.{length, drop, length-drop}
+use lib.Seq.{drop-drop}
 use Rattle.octets.specs.Pick.{pick}
 use Rattle.packet.specs.Family.{Family, Lawful}
 use Rattle.packet.specs.declared.source.Size.{Size}
 use Rattle.packet.specs.declared.source.Size.TheVariants.{Wait, Foreign, Total}
 use Rattle.walk.specs.declared.walking.End.{End}
 use Rattle.walk.specs.declared.walking.Ended.{Ended}
-use Rattle.walk.specs.declared.walking.Seen.TheVariants.{Stop, Whole}
+use Rattle.std.specs.Prelude.{Result, Err, Ok}
 use Rattle.walk.specs.declared.walking.Tally.{Tally}
 use Rattle.walk.specs.Inside.{CutFits, held_by}
 use Rattle.walk.specs.Walk.{front, seen_of, cut_of, walk_of, ended_with, ended_by}
 use Rattle.walk.proofs.WalkLaws.{CutRest, sees_end, walk_ind, walk_stop, walk_whole}
 
--- a part of the field from a place to its end
-pub to_the_end : (l : List ℕ) (at : ℕ) → take (length l - at) (drop at l) ≡ drop at l
-to_the_end l at = take_all (length l - at) (drop at l) (simp length-drop (omega arith))
-
 -- a walk that stops at a cut packet has all of it, and at least one octet
-front_cut : (limit : ℕ) (s : Size) (n k : ℕ) → front limit s n ≡ Stop (End.Cut k) → n ≡ k
+front_cut : (limit : ℕ) (s : Size) (n k : ℕ) → front limit s n ≡ Err (End.Cut k) → n ≡ k
 unfolding front
 front_cut limit Wait n k e = go (eqb n 0) e
   where
-    go : (b : Bool) → Stop (pick b End.Exact (End.Cut n)) ≡ Stop (End.Cut k) → n ≡ k
+    go : (b : Bool) → ◌≡◌ {A = Result ℕ End} (Err (pick b End.Exact (End.Cut n))) (Err (End.Cut k)) → n ≡ k
     go true e = cc
     go false e = cc
 front_cut limit Foreign n k e = cc
 front_cut limit (Total t) n k e = go (ltb limit t) (leb t n) e
   where
-    go : (a b : Bool) → pick a (Stop (End.Oversize (t - n))) (pick b (Whole t) (Stop (End.Cut n))) ≡ Stop (End.Cut k) → n ≡ k
+    go : (a b : Bool) → ◌≡◌ {A = Result ℕ End} (pick a (Err (End.Oversize (t - n))) (pick b (Ok t) (Err (End.Cut n)))) (Err (End.Cut k)) → n ≡ k
     go true b e = cc
     go false true e = cc
     go false false e = cc
 
-cut_some : (F : Family) (laws : Lawful F) (limit : ℕ) (d : List ℕ) (k : ℕ) → seen_of F limit d ≡ Stop (End.Cut k) → (length d ≡ 0 → ⊥)
+cut_some : (F : Family) (laws : Lawful F) (limit : ℕ) (d : List ℕ) (k : ℕ) → seen_of F limit d ≡ Err (End.Cut k) → (length d ≡ 0 → ⊥)
 cut_some F laws limit [] k e h =
     let s = sees_end F limit [] laws.empty_waits refl in
     let z : ◌≡◌ {A = ℕ} 0 1 = cc in
@@ -55,7 +51,7 @@ cut_rest F laws limit =
     (λ d e s k h.
     let w = walk_stop F laws limit d e s in
     let g : e ≡ End.Cut k = rw w at h in
-    let f : seen_of F limit d ≡ Stop (End.Cut k) = s ∙ ap Stop g in
+    let f : seen_of F limit d ≡ Err (End.Cut k) = s ∙ ap Err g in
     let c : length d ≡ k = front_cut limit (F.size d) (length d) k f in
     let z : length d - k ≡ 0 = omega arith in
     record { last = rw (w, g, z); some = omega (arith, cut_some F laws limit d k f); there = omega arith })

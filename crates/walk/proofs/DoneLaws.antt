@@ -14,7 +14,7 @@ use Rattle.walk.specs.declared.stepping.Course.{Course}
 use Rattle.walk.specs.declared.walking.End.{End}
 use Rattle.walk.specs.declared.walking.Ended.{Ended}
 use Rattle.walk.specs.declared.walking.Tally.{Tally}
-use Rattle.walk.specs.declared.walking.Seen.TheVariants.{Stop}
+use Rattle.std.specs.Prelude.{Err}
 use Rattle.walk.specs.Inside.{broken_course, course_by, disagreed_course, held_by}
 use Rattle.walk.specs.Steps.{Did, broke, course_of, disagreed}
 use Rattle.walk.specs.Walk.{cut_of, seen_of, walk_of, handed_all, no_tally, tallied_all, ended_with, Done, ended, ended_by}
@@ -36,7 +36,7 @@ did_nothing F s f o t course part out z e =
 
 -- a walk that stops at once
 module _ (F : Family) (laws : Lawful F) (limit : ℕ) (d : List ℕ) where
-  ended_stop : (e : End) → Stop e ≡ seen_of F limit d → ended (walk_of F limit d) ≡ ended_by e [] (cut_of e d)
+  ended_stop : (e : End) → Err e ≡ seen_of F limit d → ended (walk_of F limit d) ≡ ended_by e [] (cut_of e d)
   ended_stop e s = rw (walk_stop F laws limit d e (sym s))
 
   pub ended_foreign : F.size d ≡ Foreign
@@ -52,7 +52,7 @@ module _ (F : Family) (laws : Lawful F) (limit : ℕ) (d : List ℕ) where
   ended_oversize n there e h l = rw (← l) (ended_stop (End.Oversize (n - length d)) (sees_oversize F limit d n e h))
 
   -- all of it is held
-  pub did_hold : (course : Course) (part part' out : List ℕ) (there : ℕ) → Stop (End.Cut (length d)) ≡ seen_of F limit d → length d ≡ there
+  pub did_hold : (course : Course) (part part' out : List ℕ) (there : ℕ) → Err (End.Cut (length d)) ≡ seen_of F limit d → length d ≡ there
       → course ≡ course_by no_tally (End.Cut there) → part' ≡ laid part 0 d → Did F (ended (walk_of F limit d)) course part part' out out
   unfolding ended_by cut_of course_by course_of tallied_all handed_all
   did_hold course part part' out there s l reports holds =

@@ -19,8 +19,7 @@ use Rattle.channel.specs.Rules.{judged, state_follows}
 use Rattle.channel.specs.declared.state.State.TheVariants.{Gathering}
 use Rattle.channel.proofs.RuleLaws.{both, and, gathers_told}
 use Rattle.walk.specs.declared.walking.End.{End}
-use Rattle.walk.specs.declared.walking.Seen.{Seen}
-use Rattle.walk.specs.declared.walking.Seen.TheVariants.{Stop, Whole}
+use Rattle.std.specs.Prelude.{Result, Err, Ok}
 use Rattle.walk.specs.Walk.{front, seen_of, cut_of, walk_of}
 use Rattle.octets.proofs.OctetLaws.{octets_drop, octets_take, octets_append}
 use Rattle.walk.proofs.WalkLaws.{seen_whole, walk_stop, walk_whole, walk_ind}
@@ -57,9 +56,9 @@ EndFollows F limit O End.Exact rest = Unit {0}
 EndFollows F limit O (End.Cut k) rest = (length rest ≡ k) × (k < limit) × (judged limit k (F.size rest) ≡ true) × (O → Octets rest)
 EndFollows F limit O (End.Oversize r) rest = (1 ≤ r) × (O → r ≤ F.most_skip)
 
-abbrev SeenFollows : Family → ℕ → Type 0 → List ℕ → Seen → Type 0
-SeenFollows F limit O d (Stop e) = EndFollows F limit O e (cut_of e d)
-SeenFollows F limit O d (Whole n) = Unit {0}
+abbrev SeenFollows : Family → ℕ → Type 0 → List ℕ → Result ℕ End → Type 0
+SeenFollows F limit O d (Err e) = EndFollows F limit O e (cut_of e d)
+SeenFollows F limit O d (Ok n) = Unit {0}
 
 module _ (F : Family) (laws : Lawful F) (limit : ℕ) (O : Type 0) (wide : F.header ≤ limit) where
   seen_follows : (d : List ℕ) → (O → Octets d) → ((t : ℕ) → F.size d ≡ Total t → limit < t → length d < t)
@@ -67,12 +66,12 @@ module _ (F : Family) (laws : Lawful F) (limit : ℕ) (O : Type 0) (wide : F.hea
   unfolding seen_of front cut_of judged
   seen_follows d octets over = go (F.size d) refl
     where
-      waits : F.size d ≡ Wait → (b : Bool) → SeenFollows F limit O d (Stop (pick b End.Exact (End.Cut (length d))))
+      waits : F.size d ≡ Wait → (b : Bool) → SeenFollows F limit O d (Err (pick b End.Exact (End.Cut (length d))))
       waits p true = tt
       waits p false = (refl, omega (arith, laws.header_tells d p), rw p, octets)
 
       tells : (t : ℕ) → F.size d ≡ Total t → (a : Bool) → ltb limit t ≡ a → (b : Bool) → leb t (length d) ≡ b
-          → SeenFollows F limit O d (pick a (Stop (End.Oversize (t - length d))) (pick b (Whole t) (Stop (End.Cut (length d)))))
+          → SeenFollows F limit O d (pick a (Err (End.Oversize (t - length d))) (pick b (Ok t) (Err (End.Cut (length d)))))
       tells t p true q b r = (
         omega (arith, over t p (ltb-true limit t q)),
         λ o. omega (arith, laws.skip_most d t (octets o) p),
@@ -113,8 +112,8 @@ module _ (F : Family) (laws : Lawful F) (limit : ℕ) (O : Type 0) (wide : F.hea
       over : (t : ℕ) → F.size d ≡ Total t → limit < t → length d < t
       over t p h = omega (arith, long, (held_total F laws limit k t part field l e p).1 h)
 
-      go : (s : Seen) → seen_of F limit d ≡ s → EndFollows F limit O (walk_of F limit d).end (walk_of F limit d).rest
-      go (Stop e) s = rw (walk_stop F laws limit d e s) (rw s at (seen_follows d octets over))
-      go (Whole n) s =
+      go : (s : Result ℕ End) → seen_of F limit d ≡ s → EndFollows F limit O (walk_of F limit d).end (walk_of F limit d).rest
+      go (Err e) s = rw (walk_stop F laws limit d e s) (rw s at (seen_follows d octets over))
+      go (Ok n) s =
           let beyond = (held_total F laws limit k n part field l e (seen_whole F laws limit d n s).told).0 in
           rw (walk_whole F laws limit d n s) (walk_follows (drop n d) (omega (arith, long, length-drop n d)) (λ o. octets_drop d n (octets o)))

@@ -20,8 +20,7 @@ use Rattle.channel.specs.declared.state.State.{State}
 use Rattle.channel.specs.declared.state.State.TheVariants.{Hunting, Gathering, Skipping}
 use Rattle.channel.proofs.RuleLaws.{both}
 use Rattle.walk.specs.declared.walking.End.{End}
-use Rattle.walk.specs.declared.walking.Seen.{Seen}
-use Rattle.walk.specs.declared.walking.Seen.TheVariants.{Stop, Whole}
+use Rattle.std.specs.Prelude.{Result, Err, Ok}
 use Rattle.walk.specs.declared.walking.Tally.{Tally}
 use Rattle.walk.specs.Steps.{hunted, broke, disagreed, called_at, agrees, gathered, skipped, resumed, gap_for, carries_none, steps_of}
 use Rattle.walk.specs.Walk.{Done, only, ended_by, ended, seen_of, walk_of, tallied, tallied_all}
@@ -75,9 +74,9 @@ module _ (F : Family) (laws : Lawful F) (limit : ℕ) (part field : List ℕ) wh
       d : List ℕ
       d = take k part ++ field
 
-      go : (s : Seen) → seen_of F limit d ≡ s → F.least * (length (walk_of F limit d).whole + 0) < length field + F.least
-      go (Stop e) s = rw (walk_stop F laws limit d e s) nothing_few
-      go (Whole n) s =
+      go : (s : Result ℕ End) → seen_of F limit d ≡ s → F.least * (length (walk_of F limit d).whole + 0) < length field + F.least
+      go (Err e) s = rw (walk_stop F laws limit d e s) nothing_few
+      go (Ok n) s =
           let stands = seen_whole F laws limit d n s in
           let beyond = (held_total F laws limit k n part field l e stands.told).0 in
           let m = length (walk_of F limit (drop n d)).whole in

@@ -21,7 +21,7 @@ use Rattle.channel.specs.declared.state.State.TheVariants.{Gathering}
 use Rattle.channel.proofs.RuleLaws.{both, gathers_told}
 use Rattle.walk.specs.declared.stepping.Course.{Course}
 use Rattle.walk.specs.declared.walking.Ended.{Ended}
-use Rattle.walk.specs.declared.walking.Seen.TheVariants.{Whole}
+use Rattle.std.specs.Prelude.{Ok}
 use Rattle.walk.specs.declared.walking.Tally.{Tally}
 use Rattle.walk.specs.Inside.{course_by, held_by}
 use Rattle.walk.specs.Steps.{Did}
@@ -83,7 +83,7 @@ module _ (held field : List ℕ) (k n : ℕ) (e : k ≡ length held) (above : k 
   did_gather limit course part part' out out₁ out' t end told within there room et e₁ answer output reports holds =
       let d = held ++ field in
       let l : length d ≡ k + length field = omega (arith, length-append held field) in
-      let s : seen_of source limit d ≡ Whole n = sym (sees_packet source limit d n told within (omega arith)) in
+      let s : seen_of source limit d ≡ Ok n = sym (sees_packet source limit d n told within (omega arith)) in
       let w = walk_whole source source_lawful limit d n s in
       did_walk source source_lawful limit field (n - k) (omega arith) course part part' out out' end d
       (rw (w, across_drop))

@@ -10,4 +10,5 @@ pub mod OctetLaws
 pub mod SourceLaws
 pub mod StepLaws
 pub mod WalkLaws
+pub mod WholeLaws
 pub mod WordLaws

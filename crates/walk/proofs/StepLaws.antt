@@ -4,7 +4,7 @@ use mathlib.Core.Path.{◌≡◌, refl, ◌∙◌, sym}
 use mathlib.Core.Bool.{Bool, true, false, ◌||◌, false≢true}
 use mathlib.Core.List.{List, ◌++◌}
 use mathlib.Core.Logic.{⊎_elim}
-use Prim.Native.Nat.{ℕ, ◌+◌, ◌-◌, ◌≤◌, ◌<◌}
+use Prim.Native.Nat.{ℕ, ◌-◌, ◌≤◌, ◌<◌}
 use native.Mathlib.Omega.{arith}
 use lib.Dec.{eqb}
 use lib.ListN.{length, take, drop}
@@ -19,10 +19,9 @@ use Rattle.channel.specs.Rules.{channel_follows, state_follows, hunts}
 use Rattle.channel.specs.declared.state.Channel.{Channel}
 use Rattle.channel.specs.declared.state.State.{State}
 use Rattle.channel.specs.declared.state.State.TheVariants.{Hunting, Gathering, Skipping}
-use Rattle.walk.specs.declared.walking.Tally.{Tally}
 use Rattle.walk.specs.Inside.{Fit}
 use Rattle.walk.specs.Steps.{agrees, agrees_by, broke, called_at, carries_none, disagreed, gap_for, gathered, hunted, resumed, skipped, steps_of}
-use Rattle.walk.specs.Walk.{no_tally, walk_of, ended, only}
+use Rattle.walk.specs.Walk.{walk_of, ended, only}
 
 -- the pointer that an end calls for
 module _ (D end : ℕ) where
@@ -62,13 +61,6 @@ agreed D k pointer e f g = rw (← e) (sym f ∙ g)
 pub points_in : {limit : ℕ} {part field : List ℕ} {pointer : ℕ} {out : List ℕ} → Fit limit part field pointer out
     → (pointer ≡ idle_data → ⊥) → (pointer ≡ none_starts → ⊥) → pointer ≤ length field
 points_in f i n = ⊎_elim (λ h. omega arith) (λ h. ⊎_elim (λ e. absurd (i e)) (λ e. absurd (n e)) h) f.points
-
--- a walk that starts with no packet has room
-pub walk_room : {limit : ℕ} {part field : List ℕ} {pointer : ℕ} {out : List ℕ} → Fit limit part field pointer out
-    → (from : ℕ) (t : Tally) → from ≤ length field → t ≡ no_tally
-    → (from ≤ length field) × (length field ≤ limit) × (t.filled + (length field - from) ≤ length out)
-    × (t.delivered + t.idle + (length field - from) ≤ length out)
-walk_room f from t h z = rw z (omega (arith, f))
 
 -- step 4
 module _ (F : Family) (limit : ℕ) (field : List ℕ) (pointer : ℕ) where

@@ -17,8 +17,7 @@ use Rattle.packet.specs.Family.{Family, Lawful}
 use Rattle.packet.specs.declared.source.Size.{Size}
 use Rattle.packet.specs.declared.source.Size.TheVariants.{Wait, Foreign, Total}
 use Rattle.walk.specs.declared.walking.End.{End}
-use Rattle.walk.specs.declared.walking.Seen.{Seen}
-use Rattle.walk.specs.declared.walking.Seen.TheVariants.{Stop, Whole}
+use Rattle.std.specs.Prelude.{Result, Err, Ok}
 use Rattle.walk.specs.declared.walking.Tally.{Tally}
 use Rattle.octets.proofs.Runs.{laid_nil, laid_behind}
 use Rattle.walk.specs.Walk.{front, seen_of, Walked, cut_of, turn, turns, walk_of, handed, handed_all, one_idle, one_delivered, tallied, tallied_all, ended_with}
@@ -32,40 +31,34 @@ pub record Stands (F : Family) (limit : ℕ) (d : List ℕ) (n : ℕ) : Type 0 w
   pub some : 1 ≤ n
   pub least : F.least ≤ n
 
-stop_whole : {A : Type 0} {e : End} {n : ℕ} → Stop e ≡ Whole n → A
-stop_whole p = absurd (let z : ◌≡◌ {A = ℕ} 0 1 = cc in omega arith)
-
-whole_same : {m n : ℕ} → Whole m ≡ Whole n → m ≡ n
-whole_same p = cc
-
-front_whole : (limit : ℕ) (s : Size) (k n : ℕ) → front limit s k ≡ Whole n → (s ≡ Total n) × (n ≤ limit) × (n ≤ k)
+front_whole : (limit : ℕ) (s : Size) (k n : ℕ) → front limit s k ≡ Ok n → (s ≡ Total n) × (n ≤ limit) × (n ≤ k)
 unfolding front
-front_whole limit Wait k n e = stop_whole e
-front_whole limit Foreign k n e = stop_whole e
+front_whole limit Wait k n e = cc
+front_whole limit Foreign k n e = cc
 front_whole limit (Total t) k n e = go (ltb limit t) refl (leb t k) refl e
   where
     go : (a : Bool) → ltb limit t ≡ a → (b : Bool) → leb t k ≡ b
-        → pick a (Stop (End.Oversize (t - k))) (pick b (Whole t) (Stop (End.Cut k))) ≡ Whole n
+        → ◌≡◌ {A = Result ℕ End} (pick a (Err (End.Oversize (t - k))) (pick b (Ok t) (Err (End.Cut k)))) (Ok n)
         → (Total t ≡ Total n) × (n ≤ limit) × (n ≤ k)
-    go true p b q e = stop_whole e
-    go false p false q e = stop_whole e
+    go true p b q e = cc
+    go false p false q e = cc
     go false p true q e =
-        let s : t ≡ n = whole_same e in
+        let s : t ≡ n = cc in
         (ap Total s, omega (arith, ltb-false limit t p), omega (arith, leb-true t k q))
 
-pub seen_whole : (F : Family) (laws : Lawful F) (limit : ℕ) (d : List ℕ) (n : ℕ) → seen_of F limit d ≡ Whole n → Stands F limit d n
+pub seen_whole : (F : Family) (laws : Lawful F) (limit : ℕ) (d : List ℕ) (n : ℕ) → seen_of F limit d ≡ Ok n → Stands F limit d n
 unfolding seen_of
 seen_whole F laws limit d n e =
     let f = front_whole limit (F.size d) (length d) n e in
     record { told = f.0; within = f.1; there = f.2; some = omega (arith, laws.total_least d n f.0, laws.least_some); least = laws.total_least d n f.0 }
 
 -- what a turn needs of the walk behind it is its answer behind a whole packet
-turn_same : (s : Seen) (d : List ℕ) (f g : List ℕ → Walked) → ((n : ℕ) → s ≡ Whole n → f (drop n d) ≡ g (drop n d)) → turn s d f ≡ turn s d g
+turn_same : (s : Result ℕ End) (d : List ℕ) (f g : List ℕ → Walked) → ((n : ℕ) → s ≡ Ok n → f (drop n d) ≡ g (drop n d)) → turn s d f ≡ turn s d g
 unfolding turn
-turn_same (Stop e) d f g h = refl
-turn_same (Whole n) d f g h = rw (h n refl)
+turn_same (Err e) d f g h = refl
+turn_same (Ok n) d f g h = rw (h n refl)
 
-shorter : (F : Family) (laws : Lawful F) (limit : ℕ) (d : List ℕ) (n : ℕ) → seen_of F limit d ≡ Whole n → length (drop n d) < length d
+shorter : (F : Family) (laws : Lawful F) (limit : ℕ) (d : List ℕ) (n : ℕ) → seen_of F limit d ≡ Ok n → length (drop n d) < length d
 shorter F laws limit d n e = let s = seen_whole F laws limit d n e in simp length-drop (omega arith)
 
 enough : (F : Family) (laws : Lawful F) (limit f g : ℕ) (d : List ℕ) → length d < f → length d < g → turns F limit f d ≡ turns F limit g d
@@ -83,31 +76,31 @@ walk_turn F limit laws d =
     turn_same (seen_of F limit d) d (turns F limit (length d)) (walk_of F limit)
     (λ n e. enough F laws limit (length d) (suc (length (drop n d))) (drop n d) (shorter F laws limit d n e) (omega arith))
 
-pub walk_stop : (F : Family) (laws : Lawful F) (limit : ℕ) (d : List ℕ) (e : End) → seen_of F limit d ≡ Stop e → walk_of F limit d ≡ record { whole = []; end = e; rest = cut_of e d }
+pub walk_stop : (F : Family) (laws : Lawful F) (limit : ℕ) (d : List ℕ) (e : End) → seen_of F limit d ≡ Err e → walk_of F limit d ≡ record { whole = []; end = e; rest = cut_of e d }
 unfolding turn
-walk_stop F laws limit d e s = walk_turn F limit laws d ∙ ap (λ (x : Seen). turn x d (walk_of F limit)) s
+walk_stop F laws limit d e s = walk_turn F limit laws d ∙ ap (λ (x : Result ℕ End). turn x d (walk_of F limit)) s
 
-pub walk_whole : (F : Family) (laws : Lawful F) (limit : ℕ) (d : List ℕ) (n : ℕ) → seen_of F limit d ≡ Whole n
+pub walk_whole : (F : Family) (laws : Lawful F) (limit : ℕ) (d : List ℕ) (n : ℕ) → seen_of F limit d ≡ Ok n
     → walk_of F limit d
     ≡ record { whole = take n d ∷ (walk_of F limit (drop n d)).whole; end = (walk_of F limit (drop n d)).end; rest = (walk_of F limit (drop n d)).rest }
 unfolding turn
-walk_whole F laws limit d n s = walk_turn F limit laws d ∙ ap (λ (x : Seen). turn x d (walk_of F limit)) s
+walk_whole F laws limit d n s = walk_turn F limit laws d ∙ ap (λ (x : Result ℕ End). turn x d (walk_of F limit)) s
 
 -- what holds where a walk ends, and goes from behind a whole packet to its front, holds of every walk
-by_front : (F : Family) (limit : ℕ) (P : List ℕ → Type 0) (d : List ℕ) (s : Seen) → seen_of F limit d ≡ s
-    → ((e : End) → seen_of F limit d ≡ Stop e → P d) → ((n : ℕ) → seen_of F limit d ≡ Whole n → P d) → P d
-by_front F limit P d (Stop e) p stop whole = stop e p
-by_front F limit P d (Whole n) p stop whole = whole n p
+by_front : (F : Family) (limit : ℕ) (P : List ℕ → Type 0) (d : List ℕ) (s : Result ℕ End) → seen_of F limit d ≡ s
+    → ((e : End) → seen_of F limit d ≡ Err e → P d) → ((n : ℕ) → seen_of F limit d ≡ Ok n → P d) → P d
+by_front F limit P d (Err e) p stop whole = stop e p
+by_front F limit P d (Ok n) p stop whole = whole n p
 
-walk_within : (F : Family) (laws : Lawful F) (limit : ℕ) (P : List ℕ → Type 0) → ((d : List ℕ) (e : End) → seen_of F limit d ≡ Stop e → P d)
-    → ((d : List ℕ) (n : ℕ) → seen_of F limit d ≡ Whole n → P (drop n d) → P d) → (f : ℕ) (d : List ℕ) → length d < f → P d
+walk_within : (F : Family) (laws : Lawful F) (limit : ℕ) (P : List ℕ → Type 0) → ((d : List ℕ) (e : End) → seen_of F limit d ≡ Err e → P d)
+    → ((d : List ℕ) (n : ℕ) → seen_of F limit d ≡ Ok n → P (drop n d) → P d) → (f : ℕ) (d : List ℕ) → length d < f → P d
 walk_within F laws limit P stop whole zero d h = absurd (omega arith)
 walk_within F laws limit P stop whole (suc f) d h =
     by_front F limit P d (seen_of F limit d) refl (stop d)
     (λ n e. whole d n e (walk_within F laws limit P stop whole f (drop n d) (omega (arith, shorter F laws limit d n e))))
 
-pub walk_ind : (F : Family) (laws : Lawful F) (limit : ℕ) (P : List ℕ → Type 0) → ((d : List ℕ) (e : End) → seen_of F limit d ≡ Stop e → P d)
-    → ((d : List ℕ) (n : ℕ) → seen_of F limit d ≡ Whole n → P (drop n d) → P d) → (d : List ℕ) → P d
+pub walk_ind : (F : Family) (laws : Lawful F) (limit : ℕ) (P : List ℕ → Type 0) → ((d : List ℕ) (e : End) → seen_of F limit d ≡ Err e → P d)
+    → ((d : List ℕ) (n : ℕ) → seen_of F limit d ≡ Ok n → P (drop n d) → P d) → (d : List ℕ) → P d
 walk_ind F laws limit P stop whole d = walk_within F laws limit P stop whole (suc (length d)) d (omega arith)
 
 -- whole packets give at most as many octets as there were, and each takes at least those of the least packet
@@ -163,12 +156,12 @@ counted_more F t p = go (F.idle p)
     go true = omega arith
     go false = omega arith
 
-pub ended_with_more : (F : Family) (laws : Lawful F) (limit : ℕ) (t : Tally) (d : List ℕ) (n : ℕ) → seen_of F limit d ≡ Whole n
+pub ended_with_more : (F : Family) (laws : Lawful F) (limit : ℕ) (t : Tally) (d : List ℕ) (n : ℕ) → seen_of F limit d ≡ Ok n
     → ended_with F (tallied F t (take n d)) (walk_of F limit (drop n d)) ≡ ended_with F t (walk_of F limit d)
 unfolding ended_with tallied_all
 ended_with_more F laws limit t d n s = rw (walk_whole F laws limit d n s)
 
-pub output_more : (F : Family) (laws : Lawful F) (limit : ℕ) (t : Tally) (d out : List ℕ) (n : ℕ) → seen_of F limit d ≡ Whole n → t.filled + length d ≤ length out
+pub output_more : (F : Family) (laws : Lawful F) (limit : ℕ) (t : Tally) (d out : List ℕ) (n : ℕ) → seen_of F limit d ≡ Ok n → t.filled + length d ≤ length out
     → laid (laid out t.filled (handed F (take n d))) (tallied F t (take n d)).filled (handed_all F (walk_of F limit (drop n d)).whole)
     ≡ laid out t.filled (handed_all F (walk_of F limit d).whole)
 unfolding handed_all
@@ -177,12 +170,12 @@ output_more F laws limit t d out n s h =
     rw (filled_more, walk_whole F laws limit d n s)
     (laid_behind out t.filled (t.filled + length (handed F (take n d))) (handed F (take n d)) (handed_all F (walk_of F limit (drop n d)).whole) l refl)
 
-pub ended_with_stop : (F : Family) (laws : Lawful F) (limit : ℕ) (t : Tally) (d : List ℕ) (e : End) → seen_of F limit d ≡ Stop e
+pub ended_with_stop : (F : Family) (laws : Lawful F) (limit : ℕ) (t : Tally) (d : List ℕ) (e : End) → seen_of F limit d ≡ Err e
     → record { tally = t; end = e } ≡ ended_with F t (walk_of F limit d)
 unfolding ended_with tallied_all
 ended_with_stop F laws limit t d e s = rw (walk_stop F laws limit d e s)
 
-pub output_stop : (F : Family) (laws : Lawful F) (limit : ℕ) (d out : List ℕ) (e : End) (at : ℕ) → seen_of F limit d ≡ Stop e
+pub output_stop : (F : Family) (laws : Lawful F) (limit : ℕ) (d out : List ℕ) (e : End) (at : ℕ) → seen_of F limit d ≡ Err e
     → out ≡ laid out at (handed_all F (walk_of F limit d).whole)
 unfolding handed_all
 output_stop F laws limit d out e at s = rw (walk_stop F laws limit d e s) (sym (laid_nil out at))
@@ -206,33 +199,33 @@ delivered_output F out p at e = rw e
 
 -- what stands at the front, case by case
 module _ (F : Family) (limit : ℕ) (d : List ℕ) where
-  pub sees_foreign : F.size d ≡ Foreign → Stop End.Foreign ≡ seen_of F limit d
+  pub sees_foreign : F.size d ≡ Foreign → Err End.Foreign ≡ seen_of F limit d
   unfolding seen_of front
   sees_foreign e = rw e
 
-  pub sees_end : F.size d ≡ Wait → length d ≡ 0 → Stop End.Exact ≡ seen_of F limit d
+  pub sees_end : F.size d ≡ Wait → length d ≡ 0 → Err End.Exact ≡ seen_of F limit d
   unfolding seen_of front
   sees_end e h = rw (e, h)
 
-  pub sees_few : F.size d ≡ Wait → (length d ≡ 0 → ⊥) → Stop (End.Cut (length d)) ≡ seen_of F limit d
+  pub sees_few : F.size d ≡ Wait → (length d ≡ 0 → ⊥) → Err (End.Cut (length d)) ≡ seen_of F limit d
   unfolding seen_of front
   sees_few e h = rw (e, ne_eqb (length d) 0 h)
 
   module _ (n : ℕ) (e : F.size d ≡ Total n) where
-    pub sees_oversize : limit < n → Stop (End.Oversize (n - length d)) ≡ seen_of F limit d
+    pub sees_oversize : limit < n → Err (End.Oversize (n - length d)) ≡ seen_of F limit d
     unfolding seen_of front
     sees_oversize h = rw (e, lt-ltb limit n h)
 
-    pub sees_packet : n ≤ limit → n ≤ length d → Whole n ≡ seen_of F limit d
+    pub sees_packet : n ≤ limit → n ≤ length d → Ok n ≡ seen_of F limit d
     unfolding seen_of front
     sees_packet h k = rw (e, le-ltb limit n h, le-leb n (length d) k)
 
-    pub sees_cut : n ≤ limit → length d < n → Stop (End.Cut (length d)) ≡ seen_of F limit d
+    pub sees_cut : n ≤ limit → length d < n → Err (End.Cut (length d)) ≡ seen_of F limit d
     unfolding seen_of front
     sees_cut h k = rw (e, le-ltb limit n h, lt-leb n (length d) k)
 
 -- the whole of what is left of the field is looked at
-pub looked : (F : Family) (limit : ℕ) (field : List ℕ) (at : ℕ) (s : Seen) → s ≡ seen_of F limit (take (length field - at) (drop at field))
+pub looked : (F : Family) (limit : ℕ) (field : List ℕ) (at : ℕ) (s : Result ℕ End) → s ≡ seen_of F limit (take (length field - at) (drop at field))
     → seen_of F limit (drop at field) ≡ s
 looked F limit field at s e =
     ap (seen_of F limit) (sym (take_all (length field - at) (drop at field) (simp length-drop (omega arith)))) ∙ sym e
@@ -254,7 +247,7 @@ module _ (F : Family) (laws : Lawful F) (limit : ℕ) (field : List ℕ) (from :
 
   module _ (out : List ℕ) (t : Tally) (at : ℕ) (k : Kept F limit field from out₀ t₀ out t at) where
     -- a whole packet was handed out
-    pub kept_more : (n : ℕ) (out' : List ℕ) (t' : Tally) → seen_of F limit (drop at field) ≡ Whole n
+    pub kept_more : (n : ℕ) (out' : List ℕ) (t' : Tally) → seen_of F limit (drop at field) ≡ Ok n
         → t' ≡ tallied F t (take (at + n - at) (drop at field)) → out' ≡ laid out t.filled (handed F (take (at + n - at) (drop at field)))
         → Kept F limit field from out₀ t₀ out' t' (at + n)
     kept_more n out' t' s et eo =
@@ -281,7 +274,7 @@ module _ (F : Family) (laws : Lawful F) (limit : ℕ) (field : List ℕ) (from :
         }
 
     -- the walk ended
-    pub kept_end : (e : End) → seen_of F limit (drop at field) ≡ Stop e
+    pub kept_end : (e : End) → seen_of F limit (drop at field) ≡ Err e
         → (record { tally = t; end = e } ≡ ended_with F t₀ (walk_of F limit (drop from field)))
         × (out ≡ laid out₀ t₀.filled (handed_all F (walk_of F limit (drop from field)).whole))
     kept_end e s = (

@@ -2,6 +2,7 @@
 -- `accept` is proved to give. What is promised is in specs/Steps and specs/Walk.
 use Rattle.std.specs.Prelude.{List, [], ◌≡◌, ℕ, ◌+◌, ◌-◌, ◌≤◌, length, drop}
 use Rattle.packet.specs.Size.{format_most}
+use Rattle.frame.specs.Opening.{idle_data}
 use Rattle.frame.specs.SetUp.{most_length, most_field}
 use Rattle.frame.specs.Theorems.{Points}
 use Rattle.channel.specs.declared.state.State.{State}
@@ -57,3 +58,8 @@ pub record Fit (limit : ℕ) (part field : List ℕ) (pointer : ℕ) (out : List
   pub few : length field ≤ most_field
   pub room : limit + most_length ≤ length out
   pub points : Points pointer (length field)
+
+-- that, of a frame that is not idle: its pointer is not the one of idle frames
+pub record Ready (limit : ℕ) (part field : List ℕ) (pointer : ℕ) (out : List ℕ) : Type 0 where
+  pub fit : Fit limit part field pointer out
+  pub not_idle : pointer ≡ idle_data → ⊥

@@ -8,21 +8,20 @@ use Rattle.packet.specs.declared.source.Size.TheVariants.{Wait, Foreign, Total}
 use Rattle.channel.specs.declared.state.State.{State}
 use Rattle.channel.specs.declared.state.State.TheVariants.{Hunting, Gathering, Skipping}
 use Rattle.walk.specs.declared.walking.End.{End}
-use Rattle.walk.specs.declared.walking.Seen.{Seen}
-use Rattle.walk.specs.declared.walking.Seen.TheVariants.{Stop, Whole}
+use Rattle.std.specs.Prelude.{Result, Err, Ok}
 use Rattle.walk.specs.declared.walking.Tally.{Tally}
 use Rattle.walk.specs.declared.walking.Ended.{Ended}
 
 -- what stands at the front of d: "a version other than 000 gives foreign 1"; "A total above 4,096 gives oversize 1 [..]; then skip";
 -- "A packet cut by the field's end is held. An exact end is gathering 0."
-unfoldable pub front : ℕ → Size → ℕ → Seen
-front limit Wait n = Stop (pick (eqb n 0) End.Exact (End.Cut n))
-front limit Foreign n = Stop End.Foreign
+unfoldable pub front : ℕ → Size → ℕ → Result ℕ End
+front limit Wait n = Err (pick (eqb n 0) End.Exact (End.Cut n))
+front limit Foreign n = Err End.Foreign
 front limit (Total t) n =
-    pick (ltb limit t) (Stop (End.Oversize (t - n)))
-    (pick (leb t n) (Whole t) (Stop (End.Cut n)))
+    pick (ltb limit t) (Err (End.Oversize (t - n)))
+    (pick (leb t n) (Ok t) (Err (End.Cut n)))
 
-unfoldable pub seen_of : Family → ℕ → List ℕ → Seen
+unfoldable pub seen_of : Family → ℕ → List ℕ → Result ℕ End
 seen_of F limit d = front limit (F.size d) (length d)
 
 -- what a run of octets holds: its whole packets in order, why the walk ended, and the octets of a packet that was cut
@@ -39,9 +38,9 @@ cut_of (End.Cut k) d = d
 cut_of (End.Oversize r) d = []
 
 -- one turn of the walk: it ends here, or a whole packet stands here and the walk goes on behind it
-unfoldable pub turn : Seen → List ℕ → (List ℕ → Walked) → Walked
-turn (Stop e) d on = record { whole = []; end = e; rest = cut_of e d }
-turn (Whole n) d on =
+unfoldable pub turn : Result ℕ End → List ℕ → (List ℕ → Walked) → Walked
+turn (Err e) d on = record { whole = []; end = e; rest = cut_of e d }
+turn (Ok n) d on =
     let w : Walked = on (drop n d) in
     record { whole = take n d ∷ w.whole; end = w.end; rest = w.rest }
 

@@ -2,7 +2,7 @@ use crate::walking::Tally;
 use channel::State;
 
 // What a frame did to its channel: whole packets, the new state, the counts.
-#[derive(Clone, Copy)]
+#[derive(Clone, Copy, Default)]
 pub struct Course {
     pub tally: Tally,
     pub state: State,

@@ -15,15 +15,8 @@ pub enum End {
     Oversize(usize),
 }
 
-// What stands at the front: the walk's end, or a whole packet of n octets.
-#[derive(Clone, Copy)]
-enum Seen {
-    Stop(End),
-    Whole(usize),
-}
-
 // What was done with whole packets so far, and how many octets of the output they fill.
-#[derive(Clone, Copy)]
+#[derive(Clone, Copy, Default)]
 pub struct Tally {
     pub delivered: usize,
     pub idle: usize,
@@ -36,33 +29,36 @@ pub struct Ended {
     pub end: End,
 }
 
-fn look(seen: &[u8], limit: usize) -> Seen
+// What stands at the front: a whole packet of so many octets, or the walk's end.
+#[tactic(auto, using(crate::proofs::GatherLaws::too_long, crate::proofs::GatherLaws::not_too_long), unfolding(crate::specs::Walk::seen_of, crate::specs::Walk::front))]
+fn look(seen: &[u8], limit: usize) -> Result<usize, End>
     requires { length seen.now ≤ limit }
     ensures { result ≡ seen_of source limit seen.now }
 {
     let n = seen.len();
     match Packet::size(seen) {
-        Size::Foreign => Seen::Stop(End::Foreign),
+        Size::Foreign => Err(End::Foreign),
         Size::Wait => {
             if n == 0 {
-                Seen::Stop(End::Exact)
+                Err(End::Exact)
             } else {
-                Seen::Stop(End::Cut(n))
+                Err(End::Cut(n))
             }
         }
         Size::Total(total) => {
             if !Packet::fits_within(total, limit) {
-                Seen::Stop(End::Oversize(total - n))
+                Err(End::Oversize(total - n))
             } else if total <= n {
-                Seen::Whole(total)
+                Ok(total)
             } else {
-                Seen::Stop(End::Cut(n))
+                Err(End::Cut(n))
             }
         }
     }
 }
 
 // Delivers a whole packet, or counts it if it is idle.
+#[tactic(auto, using(octets::proofs::Runs::laid_nil), unfolding(crate::specs::Walk::tallied, crate::specs::Walk::handed))]
 fn hand_out(packet: &[u8], out: &mut [u8], t: Tally) -> Tally
     requires { (2 ≤ length packet.now) × (t.filled + length packet.now ≤ length out.old) × (t.delivered + t.idle < length out.old) }
     ensures tally { result ≡ tallied source t packet.now }
@@ -70,21 +66,20 @@ fn hand_out(packet: &[u8], out: &mut [u8], t: Tally) -> Tally
 {
     if Packet::idle(packet) {
         return Tally {
-            delivered: t.delivered,
             idle: t.idle + 1,
-            filled: t.filled,
+            ..t
         };
     }
     let at = t.filled;
     octets::copy(out, at, packet);
     Tally {
         delivered: t.delivered + 1,
-        idle: t.idle,
         filled: t.filled + packet.len(),
+        ..t
     }
 }
 
-// Step 5, from place `from` of the data field on.
+// Step 5, from place `from` of the data field on: a loop that yields its end state by break, the paper's form.
 pub fn walk(field: &[u8], from: usize, limit: usize, out: &mut [u8], start: Tally) -> Ended
     requires { (from ≤ length field.now) × (length field.now ≤ limit) × (start.filled + (length field.now - from) ≤ length out.old) × (start.delivered + start.idle + (length field.now - from) ≤ length out.old) }
     ensures answer { result ≡ ended_with source start (walk_of source limit (drop from field.now)) }
@@ -93,10 +88,9 @@ pub fn walk(field: &[u8], from: usize, limit: usize, out: &mut [u8], start: Tall
     let mut t = start;
     let mut at = from;
     let end = loop {
-        let seen = look(&field[at..], limit);
-        match seen {
-            Seen::Stop(e) => break e,
-            Seen::Whole(n) => {
+        match look(&field[at..], limit) {
+            Err(e) => break e,
+            Ok(n) => {
                 let next = at + n;
                 t = hand_out(&field[at..next], out, t);
                 at = next;

@@ -1,17 +1,15 @@
 -- The frame around a data field that was laid into its place in the output.
 -- Assumes nothing.
+use Rattle.std.specs.Prelude.{Option, Ok}
 use mathlib.Core.Path.{◌≡◌, refl, ◌∙◌, ap, ap₂}
 use mathlib.Core.Bool.{Bool, true}
 use mathlib.Core.List.{List, ◌++◌}
 use Prim.Native.Nat.{ℕ, ◌+◌, ◌-◌, ◌≤◌, ◌<◌}
 use native.Mathlib.Omega.{arith}
-use lib.Dec.{eqb}
 use lib.ListN.{length, take, drop, length-append, length-take, length-drop}
 use lib.Seq.{take_at, drop_at, length-take-le}
-use borrow.Author.Tests.{eq-eqb, ne_eqb}
 use Rattle.packet.specs.Chain.{distance_of}
 use Rattle.frame.specs.Closing.{close_of, close_size, frame_around, field_in, output_of}
-use Rattle.frame.specs.declared.closing.Closed.TheVariants.{Written}
 use Rattle.frame.specs.Counts.{after}
 use Rattle.frame.specs.SetUp.{fits_of}
 use Rattle.frame.specs.declared.closing.ControlWord.{ControlWord}
@@ -21,7 +19,6 @@ use Rattle.frame.specs.declared.set_up.SetUp.{SetUp}
 use Rattle.frame.proofs.ClosingLaws.{sizes}
 use Rattle.frame.proofs.Laws.{close_passes, close_around}
 use Rattle.writing.specs.declared.Laid.{Laid}
-use Rattle.writing.specs.declared.Answer.TheVariants.{Frame}
 use Rattle.writing.specs.declared.Place.{Place}
 use Rattle.writing.specs.Laying.{field_of, left_over_after, nothing_of, pointer_of, run_part}
 use Rattle.writing.specs.Inside.{Ready, WroteBy}
@@ -49,9 +46,9 @@ module _ (D : ℕ) (out : List ℕ) (h : 6 + D ≤ length out) where
         ∙ take_at field (drop (6 + D - 6) (drop 6 out)) D l
 
 -- such an output is closed, to the frame around the field
-module _ (u : SetUp) (channel : ℕ) (m : MasterCount) (k : ChannelCount) (w : ControlWord) (pointer : ℕ) (out field : List ℕ) where
+module _ (u : SetUp) (channel : ℕ) (m : MasterCount) (k : ChannelCount) (w : Option ControlWord) (pointer : ℕ) (out field : List ℕ) where
   pub closed_around : fits_of u ≡ true → channel < 8 → length out ≡ u.length → length field ≡ close_size u w
-      → (close_of u channel (around (close_size u w) out field) ≡ Written)
+      → (close_of u channel (around (close_size u w) out field) ≡ Ok tt)
       × (field_in u w (around (close_size u w) out field) ≡ field)
       × (output_of u channel m k w pointer (around (close_size u w) out field) ≡ frame_around u channel m k w pointer field)
   unfolding field_in
@@ -63,23 +60,24 @@ module _ (u : SetUp) (channel : ℕ) (m : MasterCount) (k : ChannelCount) (w : C
       let f = field_around (close_size u w) out h field l in
       (c, f, close_around u channel m k w pointer o c ∙ ap (frame_around u channel m k w pointer) f)
 
--- nothing at all is placed: no left-over, and the run at its end
-module _ (run : List ℕ) (offset left : ℕ) (b : Bool) where
-  pub none_over : left ≡ 0 → b ≡ eqb offset (length run) → b ≡ nothing_of run offset left
-  unfolding nothing_of
-  none_over h e = rw (eq-eqb left 0 h) e
-
-  pub some_over : (left ≡ 0 → ⊥) → b ≡ eqb left 0 → b ≡ nothing_of run offset left
-  unfolding nothing_of
-  some_over h e = rw (ne_eqb left 0 h) (e ∙ ne_eqb left 0 h)
-
 -- what one call writes and hands on
-module _ (u : SetUp) (channel : ℕ) (p : Place) (w : ControlWord) (run out : List ℕ) (r : Ready u channel p run out) where
+module _ (u : SetUp) (channel : ℕ) (p : Place) (w : Option ControlWord) (run out : List ℕ) (r : Ready u channel p run out) where
   pub fits_in : 6 + close_size u w ≤ length out
   fits_in = let s = sizes u w r.fits in omega (arith, r.output_whole)
 
   pub small : close_size u w ≤ 2042
   small = (sizes u w r.fits).most
+
+  -- closing it finds no cause
+  pub closes : (D : ℕ) (field : List ℕ) → D ≡ close_size u w → field ≡ field_of (length (midst D out)) run p.offset p.left_over
+      → close_of u channel (around D out field) ≡ Ok tt
+  closes D field e_d ef =
+      let lm : length (midst D out) ≡ close_size u w = length_midst D out (omega (arith, fits_in)) ∙ e_d in
+      let ef' : field ≡ field_of (close_size u w) run p.offset p.left_over =
+      ef ∙ ap (λ (n : ℕ). field_of n run p.offset p.left_over) lm in
+      ap (λ (n : ℕ). close_of u channel (around n out field)) e_d
+      ∙ (closed_around u channel p.master p.count w 0 out field r.fits r.channel_fits r.output_whole
+      (ap length ef' ∙ length_field_lem (close_size u w) run p.offset p.left_over)).0
 
   pub wrote_by : (D : ℕ) (field o : List ℕ) (laid : Laid) (distance pointer : ℕ) (nothing : Bool) (m : MasterCount) (k : ChannelCount)
       → D ≡ close_size u w
@@ -90,7 +88,7 @@ module _ (u : SetUp) (channel : ℕ) (p : Place) (w : ControlWord) (run out : Li
       → pointer ≡ pointer_of D distance p.left_over nothing
       → o ≡ output_of u channel p.master p.count w pointer (around D out field)
       → m.0 ≡ after p.master.0 → k.0 ≡ after p.count.0
-      → WroteBy u channel p w run Frame (record { offset = laid.offset; left_over = laid.left_over; master = m; count = k }) o
+      → WroteBy u channel p w run (Ok tt) (record { offset = laid.offset; left_over = laid.left_over; master = m; count = k }) o
   unfolding next_place frame_written
   wrote_by D field o laid distance pointer nothing m k e_d el ef en ed ep eo em ek =
       let lm : length (midst D out) ≡ close_size u w = length_midst D out (omega (arith, fits_in)) ∙ e_d in

@@ -7,25 +7,26 @@ use mathlib.Core.Logic.{◌⊎◌, inl, inr}
 use Prim.Native.Nat.{ℕ, ◌+◌, ◌-◌, ◌%◌, ◌≤◌}
 use native.Mathlib.Omega.{arith}
 use lib.ListN.{length, take, drop, replicate}
+use Rattle.std.specs.Prelude.{Option, Result, Ok, Err}
 use Rattle.octets.specs.Layout.{bits_together, octets_in, numbered, laid_out}
 use Rattle.octets.specs.Numbers.{octets_of}
 use Rattle.octets.proofs.Runs.{octets_append}
 use Rattle.frame.specs.Closing.{close_size}
 use Rattle.frame.specs.Opening.{open_of}
+use Rattle.frame.specs.declared.closing.ControlWord.{ControlWord}
 use Rattle.frame.specs.declared.set_up.SetUp.{SetUp}
 use Rattle.frame.proofs.ClosingLaws.{sizes}
 use Rattle.frame.proofs.Laws.{closed_opens}
 use Rattle.table.proofs.Laws.{first_exactly, first_gives, none_exactly, none_gives, made}
 use Rattle.packet.specs.Chain.{distance_of}
 use Rattle.packet.specs.Header.{packet_header}
-use Rattle.writing.specs.declared.Answer.TheVariants.{Refused, Frame}
 use Rattle.writing.specs.declared.Place.{Place}
 use Rattle.writing.specs.declared.Refusal.{Refusal}
 use Rattle.writing.specs.Answers.{number_of, answer_number, values_of}
 use Rattle.writing.specs.Laying.{idle_packet, left_over_after, nothing_of, run_part}
 use Rattle.writing.specs.Theorems.{NumberExactly, WrittenExactly, RefusedUntouched, WrittenOpens, LaidWellLaw, idle_value, IdlePacketLaid, GoesOnLaw}
-use Rattle.writing.specs.Inside.{Ready}
-use Rattle.writing.specs.Writing.{row24, write_table, answer_of, next_of, output_of, next_place, frame_written, laid_field, laid_pointer}
+use Rattle.writing.specs.Inside.{Ready, WroteBy}
+use Rattle.writing.specs.Writing.{row24, write_table, answer_of, next_of, output_of, next_place, frame_written, laid_field, laid_pointer, Wrote}
 use Rattle.writing.proofs.FieldLaws.{points_well, nothing_exactly, left_then}
 use Rattle.writing.proofs.FrameLaws.{around, closed_around}
 use Rattle.writing.proofs.LayingLaws.{length_field_lem, length_run}
@@ -36,28 +37,49 @@ pub number_exactly : NumberExactly
 unfolding answer_of values_of
 number_exactly u channel p w run out r =
     let t = write_table u channel p run out in
-    rw (made answer_number Refused Frame t) (first_exactly number_of 0 number_one (λ r e. omega (arith, (case_back r).1)) t r)
+    rw (made answer_number Err (Ok tt) t) (first_exactly number_of 0 number_one (λ r e. omega (arith, (case_back r).1)) t r)
 
 -- a frame is not refused
-not_refused : (r : Refusal) → Frame ≡ Refused r → ⊥
+not_refused : (r : Refusal) → ◌≡◌ {A = Result (Unit {0}) Refusal} (Ok tt) (Err r) → ⊥
 not_refused r q = let z : ◌≡◌ {A = ℕ} 0 1 = cc in omega arith
 
 pub written_exactly : WrittenExactly
 unfolding answer_of
 written_exactly u channel p run out =
-    let n = none_exactly Refused Frame Frame (λ r q. not_refused r (sym q)) (write_table u channel p run out) in
+    let n = none_exactly Err (Ok tt) (Ok tt) (λ r q. not_refused r (sym q)) (write_table u channel p run out) in
     (λ e. (n.0 e).1, λ h. n.1 (refl, h))
 
 pub refused_untouched : RefusedUntouched
 unfolding answer_of next_of output_of
 refused_untouched u channel p w run out r e =
     let t = write_table u channel p run out in
-    let f = (first_exactly Refused Frame (λ s r q. cc) not_refused t r).0 e in
+    let f = (first_exactly Err (Ok tt) (λ s r q. cc) not_refused t r).0 e in
     (first_gives (λ _. p) (next_place u p w run) t r f, first_gives (λ _. out) (frame_written u channel p w run) t r f)
 
-module _ (u : SetUp) (channel : ℕ) (p : Place) (run out : List ℕ) (e : answer_of u channel p run out ≡ Frame) where
+module _ (u : SetUp) (channel : ℕ) (p : Place) (run out : List ℕ) (e : answer_of u channel p run out ≡ Ok tt) where
   tested : Ready u channel p run out × (row24 (length run) p.offset p.left_over ≡ false)
   tested = passing u channel p run out ((written_exactly u channel p run out).0 e)
+
+-- what the tests answered decides what a call leaves, and what the frame's writing may rely on
+module _ (u : SetUp) (channel : ℕ) (p : Place) (w : Option ControlWord) (run out : List ℕ) (a : Result (Unit {0}) Refusal) (t : a ≡ answer_of u channel p run out) where
+  pub refuses : (r : Refusal) → a ≡ Err r → Wrote u channel p w run out a p out
+  refuses r e =
+      let k = refused_untouched u channel p w run out r (sym t ∙ e) in
+      record { answers = t; goes_on = sym k.0; output_left = sym k.1 }
+
+  module _ (e : a ≡ Ok tt) where
+    pub ready : Ready u channel p run out
+    ready = (tested u channel p run out (sym t ∙ e)).0
+
+    pub writes : (next : Place) (out' : List ℕ) → WroteBy u channel p w run (Ok tt) next out' → Wrote u channel p w run out a next out'
+    unfolding next_of output_of
+    writes next out' b =
+        let n = (written_exactly u channel p run out).0 (sym t ∙ e) in
+        record {
+          answers = t;
+          goes_on = b.goes_on ∙ sym (none_gives (λ _. p) (next_place u p w run) (write_table u channel p run out) n);
+          output_left = b.output_left ∙ sym (none_gives (λ _. out) (frame_written u channel p w run) (write_table u channel p run out) n);
+        }
 
 pub written_opens : WrittenOpens
 unfolding frame_written
@@ -104,7 +126,7 @@ goes_on u channel p w run out e =
     let l = left_then D run p.offset p.left_over (sizes u w r.fits).least r.left_fits r.inside in
     let inside : p.offset + n ≤ length run = omega (arith, r.inside, length_run D run p.offset p.left_over) in
     record {
-      next_passes = none_gives Refused Frame (write_table u channel (next_place u p w run) run out)
+      next_passes = none_gives Err (Ok tt) (write_table u channel (next_place u p w run) run out)
           (passed u channel (next_place u p w run) run out r.fits r.channel_fits r.run_fits r.chain inside
           (handed_passes (length run) p.offset p.left_over n (left_over_after D run p.offset p.left_over) t.1 l.0 l.1)
           r.output_whole);

@@ -1,7 +1,5 @@
 -- The paper's number and values for each case of a writing's answer (01, "When the desk says no").
-use Rattle.std.specs.Prelude.{List, [], ◌∷◌, ℕ}
-use Rattle.writing.specs.declared.Answer.{Answer}
-use Rattle.writing.specs.declared.Answer.TheVariants.{Refused, Frame}
+use Rattle.std.specs.Prelude.{List, [], ◌∷◌, ℕ, Result, Ok, Err}
 use Rattle.writing.specs.declared.Place.{Place}
 use Rattle.writing.specs.declared.Refusal.{Refusal}
 use Rattle.writing.specs.declared.Refusal.TheVariants.{SetUpRange, ChannelAbove, RunLength, NotAChain, OffsetPast, LeftOver, OutputLength}
@@ -16,10 +14,10 @@ number_of LeftOver = 24
 number_of OutputLength = 25
 
 -- the number of an answer, 0 for a frame that was written
-abbrev pub answer_number : Answer → ℕ
-answer_number (Refused r) = number_of r
-answer_number Frame = 0
+abbrev pub answer_number : Result (Unit {0}) Refusal → ℕ
+answer_number (Err r) = number_of r
+answer_number (Ok _) = 0
 
 -- number, offset, left-over, master count, channel count; `next` is what comes back: as given on a refusal
-unfoldable pub values_of : Answer → Place → List ℕ
+unfoldable pub values_of : Result (Unit {0}) Refusal → Place → List ℕ
 values_of a next = answer_number a ∷ next.offset ∷ next.left_over ∷ next.master.0 ∷ next.count.0 ∷ []

@@ -1,5 +1,5 @@
 -- Writing one frame: the table of refusals (01, "When the desk says no", "Writing, in order") and what one call answers and leaves.
-use Rattle.std.specs.Prelude.{Bool, not, ◌&&◌, ◌||◌, List, [], ◌∷◌, ◌≡◌, ℕ, ◌+◌, eqb, ltb, length}
+use Rattle.std.specs.Prelude.{Bool, not, ◌&&◌, ◌||◌, List, [], ◌∷◌, ◌≡◌, ℕ, ◌+◌, eqb, ltb, length, Option, Result, Ok, Err}
 use Rattle.packet.specs.Chain.{chain_of, distance_of}
 use Rattle.frame.specs.Closing.{close_size, frame_around, row20, row25}
 use Rattle.frame.specs.Counts.{after}
@@ -7,8 +7,6 @@ use Rattle.frame.specs.Opening.{row1}
 use Rattle.table.specs.Table.{Row, row, first_cause}
 use Rattle.frame.specs.declared.closing.ControlWord.{ControlWord}
 use Rattle.frame.specs.declared.set_up.SetUp.{SetUp}
-use Rattle.writing.specs.declared.Answer.{Answer}
-use Rattle.writing.specs.declared.Answer.TheVariants.{Refused, Frame}
 use Rattle.writing.specs.declared.Place.{Place}
 use Rattle.writing.specs.declared.Refusal.{Refusal}
 use Rattle.writing.specs.declared.Refusal.TheVariants.{SetUpRange, ChannelAbove, RunLength, NotAChain, OffsetPast, LeftOver, OutputLength}
@@ -41,19 +39,19 @@ write_table u channel p run out =
     ∷ row OutputLength (row25 u out) ∷ []
 
 -- the data field and the pointer of the frame
-abbrev pub laid_field : SetUp → ControlWord → List ℕ → Place → List ℕ
+abbrev pub laid_field : SetUp → Option ControlWord → List ℕ → Place → List ℕ
 laid_field u w run p = field_of (close_size u w) run p.offset p.left_over
 
-abbrev pub laid_pointer : SetUp → ControlWord → List ℕ → Place → ℕ
+abbrev pub laid_pointer : SetUp → Option ControlWord → List ℕ → Place → ℕ
 laid_pointer u w run p =
     pointer_of (close_size u w) (distance_of run p.offset) p.left_over (nothing_of run p.offset p.left_over)
 
 -- the frame: header, data field, control word, check
-unfoldable pub frame_written : SetUp → ℕ → Place → ControlWord → List ℕ → List ℕ
+unfoldable pub frame_written : SetUp → ℕ → Place → Option ControlWord → List ℕ → List ℕ
 frame_written u channel p w run = frame_around u channel p.master p.count w (laid_pointer u w run p) (laid_field u w run p)
 
 -- "New offset, left-over and counts are returned": "counts go up by one modulo 256"
-unfoldable pub next_place : SetUp → Place → ControlWord → List ℕ → Place
+unfoldable pub next_place : SetUp → Place → Option ControlWord → List ℕ → Place
 next_place u p w run =
     record {
       offset = p.offset + length (run_part (close_size u w) run p.offset p.left_over);
@@ -63,17 +61,17 @@ next_place u p w run =
     }
 
 -- one call: its answer, what the next call is given, and the output; on a refusal both as they were
-unfoldable pub answer_of : SetUp → ℕ → Place → List ℕ → List ℕ → Answer
-answer_of u channel p run out = first_cause (write_table u channel p run out) Refused Frame
+unfoldable pub answer_of : SetUp → ℕ → Place → List ℕ → List ℕ → Result (Unit {0}) Refusal
+answer_of u channel p run out = first_cause (write_table u channel p run out) Err (Ok tt)
 
-unfoldable pub next_of : SetUp → ℕ → Place → ControlWord → List ℕ → List ℕ → Place
+unfoldable pub next_of : SetUp → ℕ → Place → Option ControlWord → List ℕ → List ℕ → Place
 next_of u channel p w run out = first_cause (write_table u channel p run out) (λ _. p) (next_place u p w run)
 
-unfoldable pub output_of : SetUp → ℕ → Place → ControlWord → List ℕ → List ℕ → List ℕ
+unfoldable pub output_of : SetUp → ℕ → Place → Option ControlWord → List ℕ → List ℕ → List ℕ
 output_of u channel p w run out = first_cause (write_table u channel p run out) (λ _. out) (frame_written u channel p w run)
 
 -- what a call must answer and leave behind
-pub record Wrote (u : SetUp) (channel : ℕ) (p : Place) (w : ControlWord) (run out : List ℕ) (answer : Answer) (next : Place) (out' : List ℕ) : Type 0 where
+pub record Wrote (u : SetUp) (channel : ℕ) (p : Place) (w : Option ControlWord) (run out : List ℕ) (answer : Result (Unit {0}) Refusal) (next : Place) (out' : List ℕ) : Type 0 where
   pub answers : answer ≡ answer_of u channel p run out
   pub goes_on : next ≡ next_of u channel p w run out
   pub output_left : out' ≡ output_of u channel p w run out

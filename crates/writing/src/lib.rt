@@ -32,40 +32,27 @@ pub struct Laid {
 // Why no frame is written.
 #[derive(Clone, Copy)]
 pub enum Refusal {
-    SetUpRange,
-    ChannelAbove,
-    RunLength,
-    NotAChain,
-    OffsetPast,
-    LeftOver,
-    OutputLength,
+    SetUpRange = 1,
+    ChannelAbove = 20,
+    RunLength = 21,
+    NotAChain = 22,
+    OffsetPast = 23,
+    LeftOver = 24,
+    OutputLength = 25,
 }
 
 impl Refusal {
-    // The paper's number.
+    // The paper's number, which is the case's own.
     pub fn number(self) -> u32
         ensures { result ≡ number_of self }
     {
-        match self {
-            Refusal::SetUpRange => 1,
-            Refusal::ChannelAbove => 20,
-            Refusal::RunLength => 21,
-            Refusal::NotAChain => 22,
-            Refusal::OffsetPast => 23,
-            Refusal::LeftOver => 24,
-            Refusal::OutputLength => 25,
-        }
+        self as u32
     }
 }
 
-#[derive(Clone, Copy)]
-pub enum Answer {
-    Refused(Refusal),
-    Frame,
-}
-
+// What one call gives back: its answer, and the place from now on, which a refusal gives back as it came.
 #[derive(Clone, Copy)]
 pub struct Written {
-    pub answer: Answer,
+    pub answer: Result<(), Refusal>,
     pub next: Place,
 }

@@ -1,28 +1,24 @@
--- what the test comes to from the start is what it comes to from here.
-use mathlib.Core.Path.{◌≡◌, ◌∙◌, sym}
-use Prim.Native.Nat.{◌≤◌}
+-- what the test comes to from the start is what it comes to from the rest.
+use mathlib.Core.Path.{◌∙◌, sym}
 use native.Mathlib.Omega.{arith}
-use lib.ListN.{drop}
 use borrow.Author.Rules.{rules}
-use Rattle.packet.specs.Chain.{front_of}
-use Rattle.packet.proofs.ChainTurns.{looked, packet_is_fit, tested_start, tested_more, tested_stop, tested_end}
+use lib.ListN.{length-drop, length-take}
+use Rattle.packet.proofs.ChainTurns.{packet_fits, chain_behind, chain_ends}
 use Rattle.chain.proofs.is_chain.Goals as goal
 
-pub loop-at-init : goal.loop-at-init
-loop-at-init c = tested_start _
+pub slice_bounds-rest-count : goal.slice_bounds-rest-count
+slice_bounds-rest-count c = (packet_fits _ _ (sym c.in-Some.is ∙ c.front.ensures)).1
 
-pub returns-then-n-eq0 : goal.returns-then-n-eq0
-returns-then-n-eq0 c = let k = c.loop-at in
-    tested_stop _ k.at k.invariant (search rules) (sym ((let front_here : c.front-n.result ≡ front_of (drop c.loop-at.at c.args.run.now) = looked _ c.loop-at.at _ c.front-n.ensures in front_here)) ∙ c.if-n-eq0.true)
+pub slice_bounds-rest-start : goal.slice_bounds-rest-start
+slice_bounds-rest-start c = let t = packet_fits _ _ (sym c.in-Some.is ∙ c.front.ensures) in search rules
 
-pub overflow_add-at : goal.overflow_add-at
-overflow_add-at c = omega (arith, packet_is_fit c.args.run.now c.loop-at.at c.front-n.result ((let front_here : c.front-n.result ≡ front_of (drop c.loop-at.at c.args.run.now) = looked _ c.loop-at.at _ c.front-n.ensures in front_here)) ((let stands_here : 1 ≤ c.front-n.result = omega arith in stands_here)))
+pub loop-n-smaller : goal.loop-n-smaller
+loop-n-smaller c = let t = packet_fits _ _ (sym c.in-Some.is ∙ c.front.ensures) in
+    simp (length-take, length-drop) (omega arith)
 
-pub loop-at-smaller : goal.loop-at-smaller
-loop-at-smaller c = omega (arith, packet_is_fit c.args.run.now c.loop-at.at c.front-n.result ((let front_here : c.front-n.result ≡ front_of (drop c.loop-at.at c.args.run.now) = looked _ c.loop-at.at _ c.front-n.ensures in front_here)) ((let stands_here : 1 ≤ c.front-n.result = omega arith in stands_here)))
-
-pub loop-at-preserved : goal.loop-at-preserved
-loop-at-preserved c = tested_more _ _ _ ((let front_here : c.front-n.result ≡ front_of (drop c.loop-at.at c.args.run.now) = looked _ c.loop-at.at _ c.front-n.ensures in front_here)) ((let stands_here : 1 ≤ c.front-n.result = omega arith in stands_here)) c.loop-at.invariant
+pub loop-n-preserved : goal.loop-n-preserved
+loop-n-preserved c = chain_behind _ _ (sym c.in-Some.is ∙ c.front.ensures) ∙ c.loop-n.invariant
 
 pub returns : goal.returns
-returns c = tested_end _ _ c.loop-at.invariant (search rules)
+returns c = let e = chain_ends c.loop-n.rest.now (sym c.in_default.is ∙ c.front.ensures) in
+    cc

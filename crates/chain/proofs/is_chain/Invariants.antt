@@ -1,11 +1,11 @@
--- what the test comes to from the start is what it comes to from here.
-use Prim.Native.Nat.{◌-◌}
+-- what the test comes to from the start is what it comes to from the rest.
+use mathlib.Core.Path.{◌≡◌}
 use lib.ListN.{length}
-use Rattle.packet.proofs.ChainTurns.{Tested}
+use Rattle.packet.specs.Chain.{chain_of}
 use Rattle.chain.proofs.is_chain.Given as goal
 
-abbrev pub invariant-loop-at : goal.invariant-loop-at
-invariant-loop-at l = Tested l.run l.at
+abbrev pub invariant-loop-n : goal.invariant-loop-n
+invariant-loop-n l = chain_of l.rest ≡ chain_of l.fn.run
 
-abbrev pub decreases-loop-at : goal.decreases-loop-at
-decreases-loop-at l = length l.run - l.at
+abbrev pub decreases-loop-n : goal.decreases-loop-n
+decreases-loop-n l = length l.rest

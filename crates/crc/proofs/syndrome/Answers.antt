@@ -5,8 +5,8 @@ use Prim.Native.Nat.{ℕ, ◌+◌, ◌*◌, ◌/◌, ◌%◌, ◌^◌, ◌<◌}
 use native.Mathlib.Numerals.{add-one}
 use native.Mathlib.Omega.{arith}
 use lib.ListN.{length, get_or, take}
-use lib.Seq.{take-suc, take_all}
-use lib.Bits.{bit_xor, xor_lt}
+use lib.Seq.{take-suc}
+use lib.Bits.{bit_xor}
 use Rattle.crc.specs.Register.{over, bits, bits_of, syndrome_of}
 use Rattle.crc.specs.Entries.{TableRule}
 use Rattle.crc.proofs.Linear.{syndrome_octet}
@@ -25,18 +25,13 @@ one_octet l t i r rule h octet e =
     ∙ ap (over (bits 8 (get_or l i 0))) e
     ∙ sym (ap syndrome_of (rw add-one (take-suc l i 0 h)) ∙ syndrome_octet (take i l) (get_or l i 0))
 
-pub loop-i-init : goal.loop-i-init
+pub loop-octet-init : goal.loop-octet-init
 unfolding syndrome_of bits_of over
-loop-i-init c = (omega arith, refl)
+loop-octet-init c = refl
 
-pub bounds-table-top : goal.bounds-table-top
-bounds-table-top c = xor_lt 8 _ _ (omega (arith, r_lt _ _ c.loop-i.invariant.1)) (c.type_inv.bytes c.loop-i.i).fits
-
-pub loop-i-preserved : goal.loop-i-preserved
-loop-i-preserved c =
+pub loop-octet-preserved : goal.loop-octet-preserved
+loop-octet-preserved c =
     let table = c.entries-table in
-    let i = c.loop-i.i in
-    (omega arith, one_octet c.args.bytes.now table.result i c.loop-i.r table.ensures (omega arith) (c.type_inv.bytes i).fits c.loop-i.invariant.1)
-
-pub returns : goal.returns
-returns c = c.loop-i.invariant.1 ∙ ap syndrome_of (take_all c.loop-i.i c.args.bytes.now (omega arith))
+    let i = c.loop-octet.octet-index in
+    rw c.from.ensures
+    (one_octet c.args.bytes.now table.result i c.loop-octet.r table.ensures (omega arith) (c.type_inv.bytes i).fits c.loop-octet.invariant)

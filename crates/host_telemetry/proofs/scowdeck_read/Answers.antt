@@ -1,9 +1,5 @@
-use Rattle.host_telemetry.proofs.CallLaws.{given_lays, read_call}
+use Rattle.host_telemetry.proofs.CallLaws.{given_lays}
 use Rattle.host_telemetry.proofs.scowdeck_read.Goals as goal
 
 pub answer_read-requires : goal.answer_read-requires
 answer_read-requires c = given_lays _ _ _ _ _ _ _ _ _ _ _ c.set_up-set.ensures c.unpack-rec.ensures c.read_core-o.ensures c.are_octets.ensures (λ i. (c.type_inv.frame i).fits)
-
-pub returns : goal.returns
-returns c = let d = c.answer_read.ensures in
-    read_call _ _ _ _ _ _ _ _ _ _ _ c.set_up-set.ensures c.unpack-rec.ensures c.read_core-o.ensures _ _ _ _ (d.number, (d.saved, d.answer))

@@ -1,12 +1,16 @@
-use Rattle.host_words.proofs.WordLaws.{seen_whole}
+use borrow.Author.Rules.{rules}
+use Rattle.std.proofs.Common.{◌≡◌, ◌∙◌, slice_index_or, []}
+use Rattle.host_words.specs.Busy.{seen, seen_at}
+use Rattle.host_words.proofs.WordLaws.{made_each, seen_in}
 use Rattle.host_words.proofs.see.Goals as goal
 
 pub returns : goal.returns
-returns c = let c6 = c in
-    let c5 = c6 in
-    let c4 = c5 in
-    let c3 = c4 in
-    let c2 = c3 in
-    let c1 = c2 in
-    seen_whole _ _ _ _ _ _ _ _ _ c1.seen_at.ensures c1.seen_at-2.ensures c2.seen_at-3.ensures c3.seen_at-4.ensures
-    c4.seen_at-5.ensures c5.seen_at-6.ensures c6.seen_at-7.ensures c.seen_at-8.ensures
+unfolding seen
+returns c =
+    let words = c.args.words.now in
+    let fours = c.as_chunks.result.0.now in
+    made_each _ _ (seen_at words)
+    (λ v channel q h k.
+    let is : channel ≡ seen_at (slice_index_or fours v []) 0 = search rules in
+    (is ∙ seen_in words fours c.as_chunks.ensures.front v [] c.as_chunks.ensures.front_len, search rules))
+    c.from_fn.result c.from_fn.ensures.items

@@ -1,20 +1,19 @@
--- eight channels from 32 words, else eight that break the rules.
-use borrow.Author.Tests.{ne_eqb}
-use Rattle.host_words.specs.Words.{unpacked}
-use Rattle.host_words.proofs.WordLaws.{unpacked_whole}
+use borrow.Author.Rules.{rules}
+use native.Mathlib.Omega.{arith}
+use Rattle.std.proofs.Common.{◌≡◌, ◌∙◌, sym, ap, slice_index_or, List, []}
+use Rattle.channel.specs.declared.state.Channel.{Channel}
+use Rattle.host_words.specs.Words.{channel_at}
+use Rattle.host_words.proofs.OwnLaws.{unpacked_is}
+use Rattle.host_words.proofs.WordLaws.{made_each, channel_in}
 use Rattle.host_words.proofs.unpack.Goals as goal
 
-pub returns-then-words-ne-WORDS : goal.returns-then-words-ne-WORDS
-unfolding unpacked
-returns-then-words-ne-WORDS c = simp (ne_eqb _ _ c.if-words-ne-WORDS.true, c.broken-none.ensures)
-
 pub returns : goal.returns
-returns c = let c6 = c in
-    let c5 = c6 in
-    let c4 = c5 in
-    let c3 = c4 in
-    let c2 = c3 in
-    let c1 = c2 in
-    let c0 = c1 in
-    unpacked_whole _ _ _ _ _ _ _ _ _ c0.if-words-ne-WORDS.false c0.channel_at.ensures c1.channel_at-2.ensures c2.channel_at-3.ensures
-    c3.channel_at-4.ensures c4.channel_at-5.ensures c5.channel_at-6.ensures c6.channel_at-7.ensures c.channel_at-8.ensures
+returns c =
+    let words = c.args.words.now in
+    let fours = c.as_chunks.result.0.now in
+    let made = made_each _ _ (channel_at words)
+    (λ v channel q h k.
+    let is : channel ≡ channel_at (slice_index_or fours v []) 0 = search rules in
+    (is ∙ channel_in words fours c.as_chunks.ensures.front v [] (omega (arith, c.if-words-ne-WORDS.false)), search rules))
+    c.from_fn.result c.from_fn.ensures.items in
+    ap (λ (cs : List Channel). record { channels = cs }) (made ∙ sym (unpacked_is words c.if-words-ne-WORDS.false))

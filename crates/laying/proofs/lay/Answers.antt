@@ -12,6 +12,6 @@ overflow_add-result c = let f = c.lay_filler-begun in
 pub returns : goal.returns
 returns c = let a = c.args in
     let l = c.lay_left_over-placed in
-    let n = c.lesser-n in
+    let n = c.min-n in
     let f = c.lay_filler-begun in let r = field_laid a.field.now a.run.now a.offset a.left_over _ _ _ l.result n.result f.result c.requires.0
     l.ensures.placed n.ensures l.ensures.field c.copy.ensures (f.ensures.left, f.ensures.field) in record { goes = r.0; field = r.1 }

@@ -7,4 +7,4 @@ use Rattle.laying.proofs.lay_left_over.Goals as goal
 
 pub returns : goal.returns
 returns c = let a = c.args in
-    let n = c.lesser-n in record { placed = n.ensures; field = c.copy.ensures ∙ ap (laid a.field.now 0) (left_taken (length a.field.now) a.left_over n.result c.requires n.ensures) }
+    let n = c.min-n in record { placed = n.ensures; field = c.copy.ensures ∙ ap (laid a.field.now 0) (left_taken (length a.field.now) a.left_over n.result c.requires n.ensures) }

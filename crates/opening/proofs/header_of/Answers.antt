@@ -9,7 +9,7 @@ returns c = let f = c.args.frame.now in
     let g = c.type_inv.frame in
     header_is f _ _ _ _
     (λ i. omega (arith, g i))
-    c.number16-first.ensures.0
-    c.number16-last.ensures.0
+    c.number-first.ensures.0
+    c.number-last.ensures.0
     refl
     refl

@@ -9,7 +9,7 @@ use Rattle.opening.proofs.other_version.Goals as goal
 
 pub returns : goal.returns
 unfolding row7
-returns c = let f = c.args.frame.now in
-    let g = c.type_inv.frame in
-    let e : c.number16.result / 16384 ≡ version_of f = omega (arith, version_is f (λ i. omega (arith, g i))) in
+returns c = let f = c.args.octets.now in
+    let g = c.type_inv.octets in
+    let e : c.number.result / 16384 ≡ version_of f = omega (arith, version_is f (λ i. omega (arith, g i))) in
     rw e

@@ -12,9 +12,7 @@ use Rattle.rules.proofs.follows.Goals as goal
 
 pub loop-v-init : goal.loop-v-init
 unfolding record_follows
-loop-v-init c =
-    let e : length c.args.rec.channels ≡ 8 = search (rules, length_any) depth 7 in
-    (e, omega arith, refl)
+loop-v-init c = refl
 
 pub overflow_add-place : goal.overflow_add-place
 unfolding part_place
@@ -23,21 +21,21 @@ overflow_add-place c = omega arith
 pub returns-then-not-channel_follows : goal.returns-then-not-channel_follows
 returns-then-not-channel_follows c = let l = c.loop-v in
     let a = c.args in
-    sym (l.invariant.2 ∙ follow_stop source most a.store.now a.rec.channels l.v _ _ _ _ _ (omega arith)
+    let e : length a.rec.channels ≡ 8 = search (rules, length_any) depth 7 in
+    sym (l.invariant ∙ follow_stop source most a.store.now a.rec.channels l.v _ _ _ _ _ (omega arith)
     c.place-place.ensures c.lesser-at.ensures c.lesser-end.ensures
     c.channel_follows.ensures (c.if-not-channel_follows.true))
 
 pub loop-v-preserved : goal.loop-v-preserved
 loop-v-preserved c = let l = c.loop-v in
-    let a = c.args in (
-      l.invariant.0,
-      omega arith,
-      l.invariant.2 ∙ follow_next source most a.store.now a.rec.channels l.v _ _ _ _ _ (omega arith)
-          c.place-place.ensures c.lesser-at.ensures c.lesser-end.ensures
-          c.channel_follows.ensures (c.if-not-channel_follows.false),
-    )
+    let a = c.args in
+    let e : length a.rec.channels ≡ 8 = search (rules, length_any) depth 7 in
+    l.invariant ∙ follow_next source most a.store.now a.rec.channels l.v _ _ _ _ _ (omega arith)
+    c.place-place.ensures c.lesser-at.ensures c.lesser-end.ensures
+    c.channel_follows.ensures (c.if-not-channel_follows.false)
 
 pub returns : goal.returns
 returns c = let l = c.loop-v in
     let a = c.args in
-    sym (l.invariant.2 ∙ follow_end source most a.store.now a.rec.channels l.v (omega arith))
+    let e : length a.rec.channels ≡ 8 = search (rules, length_any) depth 7 in
+    sym (l.invariant ∙ follow_end source most a.store.now a.rec.channels l.v (omega arith))

@@ -6,10 +6,10 @@ use Rattle.walk.proofs.StepLaws.{agreed, gathers_on, gathers_apart}
 use Rattle.steps.proofs.resume_gathering.Goals as goal
 
 pub slice_bounds-size_across-end : goal.slice_bounds-size_across-end
-slice_bounds-size_across-end c = (held_there _ _ _ c.requires.fit.whole_part c.requires.k_value).0
+slice_bounds-size_across-end c = (held_there _ _ _ c.requires.ready.fit.whole_part c.requires.follows).0
 
 pub slice_bounds-size_across-end-2 : goal.slice_bounds-size_across-end-2
-slice_bounds-size_across-end-2 c = (held_there _ _ _ c.requires.fit.whole_part c.requires.k_value).1
+slice_bounds-size_across-end-2 c = (held_there _ _ _ c.requires.ready.fit.whole_part c.requires.follows).1
 
 pub returns-then-agreeing : goal.returns-then-agreeing
 returns-then-agreeing c = let i = c in

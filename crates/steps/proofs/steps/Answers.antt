@@ -1,6 +1,6 @@
 -- idle and private frames, a gap, and else the state.
 use native.Mathlib.Omega.{arith}
-use mathlib.Core.Path.{◌≡◌, ◌∙◌, sym}
+use mathlib.Core.Path.{◌≡◌, refl, ◌∙◌, sym}
 use mathlib.Core.Bool.{Bool, false}
 use Rattle.frame.specs.declared.header.Header.{Header}
 use Rattle.packet.specs.Size.{source}
@@ -23,16 +23,16 @@ after_gap-requires c =
     let n = packets c.args.h _ c.carries_none.ensures c.if-carries_none.false in
     let q = carries_packets c.args.h n in
     let gap : c.args.gap ≡ 0 → ⊥ = omega arith in
-    record { fit = c.requires.fit q.0; fact = q.1; gap_value = (n, c.requires.channel_value.1, gap) }
+    record { ready = record { fit = c.requires.fit q.0; not_idle = q.1 }; gap = (refl, n, c.requires.follows.1, gap) }
 
 pub resume-requires : goal.resume-requires
 resume-requires c =
     let q = carries_packets c.args.h (packets c.args.h _ c.carries_none.ensures c.if-carries_none.false) in
-    record { fit = c.requires.fit q.0; fact = q.1; state_value = state_follows_lem source _ _ _ c.requires.channel_value.0 }
+    record { ready = record { fit = c.requires.fit q.0; not_idle = q.1 }; follows = state_follows_lem source _ _ _ c.requires.follows.0 }
 
 pub returns : goal.returns
 returns c =
     let zero : c.args.gap ≡ 0 = omega arith in
     did_as (steps_on source _ _ _ _ _ (packets c.args.h _ c.carries_none.ensures c.if-carries_none.false)
-    (sym c.requires.channel_value.1 ∙ zero))
+    (sym c.requires.follows.1 ∙ zero))
     c.resume.ensures

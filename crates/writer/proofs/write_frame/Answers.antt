@@ -1,7 +1,8 @@
 -- the field laid into its place, and the frame closed around it.
+use Rattle.std.proofs.Common.{◌∙◌, ap, is_ok}
 use native.Mathlib.Omega.{arith}
 use Rattle.packet.proofs.ChainTurns.{distance_within}
-use Rattle.writing.proofs.FrameLaws.{fits_in, small, length_midst, wrote_by}
+use Rattle.writing.proofs.FrameLaws.{closes, fits_in, small, length_midst, wrote_by}
 use Rattle.writer.proofs.write_frame.Goals as goal
 
 pub overflow_add-to : goal.overflow_add-to
@@ -19,6 +20,11 @@ lay-laid-requires c = let a = c.args in
 pub pointer-start-requires : goal.pointer-start-requires
 pointer-start-requires c = let a = c.args in
     (c.requires.left_fits, omega (arith, c.requires.run_fits, distance_within a.run.now a.place.offset))
+
+pub unwrap-requires : goal.unwrap-requires
+unwrap-requires c = let a = c.args in
+    ap is_ok (c.close.ensures.answer
+    ∙ closes a.set a.channel a.place a.word a.run.now a.output.now c.requires c.data_size_for-d.result _ c.data_size_for-d.ensures c.lay-laid.ensures.field)
 
 pub returns : goal.returns
 returns c = let a = c.args in

@@ -1,9 +1,9 @@
--- the octets passed, and those that the packets left will take, are those of all packets.
-use Rattle.desk.proofs.Spans.{Passed}
+-- the octets passed are those of the packets so far.
+use mathlib.Core.Path.{◌≡◌}
+use Prim.Native.Nat.{◌≤◌}
+use lib.ListN.{length}
+use Rattle.desk.specs.Saving.{span_of}
 use Rattle.desk.proofs.saving.span.Given as goal
 
-abbrev pub invariant-loop-left : goal.invariant-loop-left
-invariant-loop-left l = Passed l.count l.output l.at l.left
-
-abbrev pub decreases-loop-left : goal.decreases-loop-left
-decreases-loop-left l = l.left
+abbrev pub invariant-loop : goal.invariant-loop
+invariant-loop l = (l.at ≡ span_of l.counter l.output) × (l.at ≤ length l.output)

@@ -1,12 +1,10 @@
--- the mask is that of the channels passed, from the last down.
-use Prim.Native.Nat.{◌≤◌}
+-- the channels are those still to come, from the last down, and those passed, whose mask stands.
 use mathlib.Core.Path.{◌≡◌}
-use lib.ListN.{length, drop}
+use mathlib.Core.List.{List, ◌++◌}
+use Rattle.channel.specs.declared.state.Channel.{Channel}
 use Rattle.channel.specs.Busy.{mask_of}
 use Rattle.channel.proofs.state.Record.busy.Given as goal
 
-abbrev pub invariant-loop-v : goal.invariant-loop-v
-invariant-loop-v l = (length l.self.channels ≡ 8) × (l.v ≤ 8) × (l.mask ≡ mask_of (drop l.v l.self.channels))
-
-abbrev pub decreases-loop-v : goal.decreases-loop-v
-decreases-loop-v l = l.v
+abbrev pub invariant-loop-channel : goal.invariant-loop-channel
+invariant-loop-channel l =
+    (passed : List Channel) × ((l.channel-iterator.iter.rest.now ++ passed ≡ l.fn.self.channels) × (l.mask ≡ mask_of passed))

@@ -11,8 +11,8 @@ returns c = let a = c in
     header_is o.args.packet.now _ _ _ _ _ _
     v.version.ensures
     o.octet-first.ensures.0
-    (a.application.ensures ∙ ap (λ (n : ℕ). n % 2048) a.number16.ensures.0)
+    (a.application.ensures ∙ ap (λ (n : ℕ). n % 2048) a.number.ensures.0)
     o.octet-third.ensures.0
     o.octet-third.ensures.1
-    c.number16-2.ensures.0
+    c.number-2.ensures.0
     c.total.ensures.0
