@@ -18,7 +18,7 @@ pub enum CloseRefusal {
 }
 
 impl CloseRefusal {
-    // The paper's number, which is the case's own.
+    // The paper's number, which is the case's own. Each type of refusals has this line: a trait would be longer than the three.
     pub fn number(self) -> u32
         ensures { result ≡ close_number_of self }
     {

@@ -21,7 +21,7 @@ pub enum Refusal {
 }
 
 impl Refusal {
-    // The paper's number, which is the case's own.
+    // The paper's number, which is the case's own. Each type of refusals has this line: a trait would be longer than the three.
     pub fn number(self) -> u32
         ensures { result ≡ number_of self }
     {

@@ -25,7 +25,7 @@ pub struct Field<'a> {
     pub limit: usize,
 }
 
-// Holds the field's last k octets.
+// Holds the field's last k octets. A number and no slice, here and below: the paper's "gathering k octets".
 fn hold(field: &[u8], k: usize, part: &mut [u8])
     requires { (k ≤ length field.now) × (k ≤ length part.old) }
     ensures { part.new ≡ laid part.old 0 (drop (length field.now - k) field.now) }
