@@ -19,6 +19,7 @@ fn kind_word(kind: Kind) -> u32
     kind as u32
 }
 
+// Written out, as host_frame's `frame_values` is, which says why.
 #[tactic(auto, unfolding(reading::specs::Answers::values_of))]
 fn report_values(a: Report) -> [u32; 20]
     requires { ReportFits a }
