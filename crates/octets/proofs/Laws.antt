@@ -1,13 +1,14 @@
--- Laws of `laid`, of numbers in octets, and of a choice.
+-- Laws of `laid`, of octets copied one by one, of numbers in octets, and of a choice.
 -- Assumes nothing.
 use mathlib.Core.Path.{◌≡◌, refl, ◌∙◌, sym, ap}
 use mathlib.Core.Bool.{Bool, true, false}
 use mathlib.Core.List.{List, ◌++◌}
 use Prim.Native.Nat.{ℕ, zero, suc, ◌+◌, ◌-◌, ◌*◌, ◌≤◌, ◌<◌}
 use native.Mathlib.Nat.{add-zero, add_assoc}
+use native.Mathlib.Numerals.{add-one}
 use native.Mathlib.Omega.{arith}
-use lib.ListN.{length, get_or, replicate, length-append, length-take, length-drop, get_or-append}
-use lib.Seq.{get_or-append-add}
+use lib.ListN.{length, get_or, set, take, drop, replicate, length-append, length-take, length-drop, get_or-append}
+use lib.Seq.{paste, paste-suc, take-length, get_or-append-add}
 use Rattle.octets.specs.Laid.{laid}
 use Rattle.octets.specs.Numbers.{number_at}
 use Rattle.octets.specs.Pick.{pick}
@@ -15,6 +16,16 @@ use Rattle.octets.specs.Pick.{pick}
 pub length_laid : (d : List ℕ) (at : ℕ) (s : List ℕ) → at + length s ≤ length d → length (laid d at s) ≡ length d
 unfolding laid
 length_laid d at s h = simp (length-append, length-take, length-drop) (omega arith)
+
+-- a turn of a loop that copies s into d₀, of which d has i octets already
+pub copied : (d₀ d s : List ℕ) (at i v : ℕ) → at + i < length d₀ → i < length s → v ≡ get_or s i 0 → d ≡ paste d₀ at s i
+    → set d (at + i) v ≡ paste d₀ at s (i + 1)
+copied d₀ d s at i v hd hs hv e = rw (e, hv, add-one) (paste-suc d₀ at s i 0 hd hs)
+
+-- a copy of all of s is s laid
+pub paste_all : (d : List ℕ) (at : ℕ) (s : List ℕ) (n : ℕ) → n ≡ length s → paste d at s n ≡ laid d at s
+unfolding laid
+paste_all d at s n e = rw e (ap (λ (l : List ℕ). take at d ++ l ++ drop (at + length s) d) (take-length s))
 
 -- a number in one octet, in two and in four
 pub number_one : (l : List ℕ) (at : ℕ) → number_at l at 1 ≡ get_or l at 0

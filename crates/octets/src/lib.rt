@@ -25,12 +25,14 @@ pub fn octet_across(a: &[u8], b: &[u8], at: usize) -> usize
 }
 
 // All of src into dst, from place at.
-#[tactic(auto, unfolding(crate::specs::Laid::laid))]
 pub fn copy(dst: &mut [u8], at: usize, src: &[u8])
     requires { at + length src.now ≤ length dst.old }
     ensures { dst.new ≡ laid dst.old at src.now }
 {
-    dst[at..at + src.len()].copy_from_slice(src);
+    // No `copy_from_slice`, which calls the C library's memmove: the archive asks a program that links it for memcpy and memset alone.
+    for (i, octet) in src.iter().enumerate() {
+        dst[at + i] = *octet;
+    }
 }
 
 // `count` octets v into dst, from place at.
