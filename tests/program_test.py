@@ -6,9 +6,12 @@
 The sample under several set-ups, a long recording, random frames, and everything that can go wrong with
 files and words. That the sample and crates/scowdeck/stdout are what they should be is .ci/run's to say.
 """
+import fcntl
 import io
 import os
 import random
+import re
+import socket
 import subprocess
 import sys
 import tempfile
@@ -19,6 +22,8 @@ import sample_report
 
 HERE = os.path.dirname(os.path.dirname(os.path.abspath(__file__)))
 PROGRAM = os.path.join(HERE, "scowdeck")
+# What the command runs, once it is built.
+BUILT = os.path.join(HERE, "target", "bin", "scowdeck")
 DATA = os.path.join(HERE, "crates", "scowdeck", "data", "recording.bin")
 checks = 0
 
@@ -127,10 +132,46 @@ def wrong_runs(folder):
     expect(status == 1 and "Is a directory" in said and printed.endswith(" result=incomplete\n"), "a folder: said %r" % said)
 
 
+# What the program writes at one go.
+PIECE = re.compile(r' why="|"|\n|(?<= why=")[^"]+| (?:kind|saved|result)=[a-z]+| (?:word|check)=none|(?:end )?(?: |\b)[a-z_]+=|[0-9a-f]+')
+PAGE = 4096
+
+
+def in_pieces(folder):
+    """Each piece goes out by itself; of a pipe of one page that fills up each that still fits comes out, and the others are lost alone."""
+    words = (DATA, "64", "171", "yes")
+    _, whole, _ = run(*words, os.path.join(tempfile.mkdtemp(dir=folder), "c"))
+    pieces = PIECE.findall(whole)
+    expect("".join(pieces) == whole, "what the program prints does not fall into pieces")
+    there, here = socket.socketpair(socket.AF_UNIX, socket.SOCK_SEQPACKET)
+    program = subprocess.Popen([BUILT, *words, os.path.join(tempfile.mkdtemp(dir=folder), "c")], cwd=folder, stdout=here)
+    here.close()
+    came = [each.decode("ascii") for each in iter(lambda: there.recv(PAGE), b"")]
+    expect(program.wait() == 0 and came == pieces, "the pieces are not what goes out: %r" % came[:20])
+    there.close()
+    for room in [0, 1, 5, 7, 12, 40, 100, 101, 102, 103, 1000, 2000, PAGE]:
+        fits, left = [], room
+        for piece in pieces:
+            if len(piece) <= left:
+                fits.append(piece)
+                left -= len(piece)
+        there, here = os.pipe()
+        filled = fcntl.fcntl(here, fcntl.F_SETPIPE_SZ, PAGE) - room
+        os.write(here, b"." * filled)
+        os.set_blocking(here, False)
+        out = os.path.join(tempfile.mkdtemp(dir=folder), "c")
+        ended = subprocess.run([BUILT, *words, out], cwd=folder, stdout=here, check=False)
+        os.close(here)
+        with open(there, "rb") as rest:
+            came = rest.read()[filled:].decode("ascii")
+        expect(ended.returncode == 0 and came == "".join(fits), "room for %d octets: %r came" % (room, came[-80:]))
+
+
 def main():
     with tempfile.TemporaryDirectory() as folder:
         right_runs(folder)
         wrong_runs(folder)
+        in_pieces(folder)
     print("program_test: ok, %d checks" % checks)
 
 

@@ -8,10 +8,11 @@ mod settling;
 ghost use Rattle.std.specs.Prelude.{◌≤◌, ◌<◌};
 
 use desk::{Saved, more};
-use lines::{Reason, blame, complain};
+use lines::{Reason, blame};
 pub use opening::open;
 use opening::{make_new, remove};
 pub use out::{OUT_MAX, Out, PATH_MAX};
+use printing::say;
 pub use settling::finished;
 use std::io::Write;
 use std::rt::Files;
@@ -69,11 +70,13 @@ pub fn save(err: &impl Print, file: &mut impl Write, v: usize, s: Saved, packets
             ..s
         },
         Err(why) => {
-            complain(
+            say(
                 err,
                 format_args!(
-                    "the packets of channel {v} cannot be written, and no more of them will be: {}",
-                    Reason(why)
+                    "scowdeck: the packets of channel {v} cannot be written, and no more of them will be{}{}{}",
+                    ": ",
+                    Reason(why),
+                    "\n"
                 ),
             );
             Saved { failed: true, ..s }

@@ -3,8 +3,10 @@ use crate::opening::open;
 use desk::Saved;
 use input::read_full;
 use lines::blame;
+use printing::{Hex, say};
 use std::fs::OpenFile;
 use std::io;
+use std::io::Read;
 use std::rt::Files;
 
 // Files of fewer octets than this are looked at whole.
@@ -20,11 +22,19 @@ struct Failure {
 // The octets read back, against what was written.
 fn compared(rt: &impl Print, octets: &[u8], s: Saved) -> bool {
     if ROOM <= octets.len() {
-        let _ = print!(rt; " check=none");
+        say(rt, " check=none");
         return !s.failed;
     }
-    let _ = print!(rt; " check={:04x}", crc::syndrome(octets));
+    let check = Hex::<4>(u32::from(crc::syndrome(octets)));
+    say(rt, format_args!(" check={check}"));
     !s.failed && octets.len() as u64 == s.octets
+}
+
+// A function of its own: among the `?` of `settled` the room would be made twice.
+fn read_back(rt: &impl Print, file: &mut impl Read, s: Saved) -> bool {
+    let mut room = [0u8; ROOM];
+    let n = read_full(file, &mut room);
+    compared(rt, &room[..n], s)
 }
 
 // Reads the channel's file back: whether all of the channel's packets are in it. std tells of no error of a close, so what such an
@@ -43,9 +53,7 @@ fn settled<R: Files + Print>(
         what: "cannot read back ",
         why,
     })?;
-    let mut room = [0u8; ROOM];
-    let n = read_full(&mut back, &mut room);
-    Ok(compared(rt, &room[..n], s))
+    Ok(read_back(rt, &mut back, s))
 }
 
 // Ends the channel's line but for the last word of it, which is what this answers.
@@ -56,7 +64,7 @@ pub fn finished<R: Files + Print>(
     path: &[u8],
     s: Saved,
 ) -> bool {
-    let _ = print!(rt; " octets={}", s.octets);
+    say(rt, format_args!(" octets={}", s.octets));
     match settled(rt, file, path, s) {
         Ok(saved) => saved,
         Err(failure) => {

@@ -1,4 +1,5 @@
 // Messages on standard error, a handle of its own and no Eprint, so that octets that are no text can go there.
+use printing::say;
 use std::fmt::InlineText;
 use std::{fmt, io};
 
@@ -19,12 +20,12 @@ impl fmt::Display for Reason {
 
 // A whole message.
 pub fn complain(err: &impl Print, what: impl fmt::Display + Drop) {
-    let _ = println!(err; "scowdeck: {what}");
+    say(err, format_args!("scowdeck: {what}\n"));
 }
 
 // A message of the file at a path, which is octets and may be no text.
 pub fn blame(err: &impl Print, before: &str, path: &[u8], why: io::Error) {
-    let _ = print!(err; "scowdeck: {before}");
+    say(err, format_args!("scowdeck: {before}"));
     let _ = err.write_all(path);
-    let _ = println!(err; ": {}", Reason(why));
+    say(err, format_args!(": {}\n", Reason(why)));
 }

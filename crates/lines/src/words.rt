@@ -3,7 +3,7 @@ use frame::Header;
 use reading::{Kind, Refusal};
 use std::fmt;
 
-// The control word, if the frame has one.
+// The control word, if the frame has one, behind its name.
 #[derive(Drop)]
 pub struct Word(Option<u32>);
 
@@ -16,18 +16,18 @@ impl Word {
 impl fmt::Display for Word {
     fn fmt<W: fmt::Write>(&self, f: &mut fmt::Formatter<W>) -> fmt::Result {
         match self.0 {
-            Some(w) => write!(f, "{w:08x}"),
-            None => f.write_str("none"),
+            Some(w) => write!(f, " word={}", printing::Hex::<8>(w)),
+            None => f.write_str(" word=none"),
         }
     }
 }
 
-// A function and no Display, as `why`: the type is another crate's, and the words are the program's.
+// Behind its name. A function and no Display, as `why`: the type is another crate's, and the words are the program's.
 pub fn kind(k: Kind) -> &'static str {
     match k {
-        Kind::Packets => "packets",
-        Kind::Idle => "idle",
-        Kind::Private => "private",
+        Kind::Packets => " kind=packets",
+        Kind::Idle => " kind=idle",
+        Kind::Private => " kind=private",
     }
 }
 

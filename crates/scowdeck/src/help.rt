@@ -1,6 +1,9 @@
+use printing::say;
+
 // ./scowdeck prints this text from here.
 pub fn help(rt: &impl Print) {
-    let _ = rt.print(
+    say(
+        rt,
         "scowdeck FILE LENGTH SPACECRAFT CHECK OUT
 
 Reads the telemetry frames that lie end to end in FILE and writes the packets of

@@ -1,5 +1,5 @@
 // The loop over the frames of a recording.
-ghost use Rattle.std.specs.Prelude.{◌≡◌, ◌≤◌, length};
+ghost use Rattle.std.specs.Prelude.{◌≡◌};
 ghost use Rattle.keeping.specs.Keeping.{Keeps};
 
 use channel::{Output, Store};
@@ -13,12 +13,11 @@ use reading::Report;
 use std::fs::File;
 use std::io::Read;
 
-// What a run over a recording keeps from frame to frame. Arrays: the program never stops for lack of memory.
+// What a run over a recording keeps from frame to frame, besides store and output: these are large, and lent by themselves, so that they are
+// made once. Arrays: the program never stops for lack of memory.
 #[derive(Drop)]
 pub struct Run {
     set: SetUp,
-    store: [u8; Store::LEN],
-    output: [u8; Output::MIN],
     pub work: Work,
     pub files: [File; 8],
 }
@@ -27,8 +26,6 @@ impl Run {
     pub fn new(set: SetUp, files: [File; 8]) -> Run {
         Run {
             set,
-            store: [0; Store::LEN],
-            output: [0; Output::MIN],
             work: Work {
                 desk: Desk::fresh(),
                 saved: [Saved::default(); 8],
@@ -38,43 +35,41 @@ impl Run {
         }
     }
 
-    // An accepted frame, with so many octets of packets: they are written before its line, so that no line tells of packets that are
-    // not in the file.
-    fn accept(&mut self, rt: &HostRuntime, r: Report, octets: usize)
-        requires { octets ≤ length self.old.output }
+    // An accepted frame, with its packets: they are written before its line, so that no line tells of packets that are not in the file.
+    fn accept(&mut self, rt: &HostRuntime, r: Report, packets: &[u8])
         ensures desk { self.new.work.desk ≡ self.old.work.desk }
-        ensures store { self.new.store ≡ self.old.store }
         ensures set { self.new.set ≡ self.old.set }
     {
         let v = r.header.channel % 8;
-        let packets = &self.output[..octets];
         let before = self.work.saved[v];
         self.work.saved[v] = save(&rt.stderr(), &mut self.files[v], v, before, packets);
         accepted(rt, self.work.desk.totals.frames, r);
     }
 
     // One frame: what the desk answers is said, and the packets are saved.
-    fn one(&mut self, rt: &HostRuntime, frame: &[u8])
-        ensures kept { Keeps self.old.set self.old.work.desk self.old.store self.old.output frame.now self.new.work.desk self.new.store }
+    fn one(
+        &mut self,
+        rt: &HostRuntime,
+        frame: &[u8],
+        store: &mut [u8; Store::LEN],
+        output: &mut [u8; Output::MIN],
+    )
+        ensures kept { Keeps self.old.set self.old.work.desk store.old output.old frame.now self.new.work.desk store.new }
         ensures set { self.new.set ≡ self.old.set }
     {
-        let stepped = step(
-            self.work,
-            self.set,
-            frame,
-            &mut self.store,
-            &mut self.output,
-        );
+        let stepped = step(self.work, self.set, frame, store, output);
         self.work = stepped.work;
         match stepped.answer {
             Err(refusal) => refused(rt, self.work.desk.totals.frames, frame.len(), refusal),
-            Ok(r) => self.accept(rt, r, stepped.octets),
+            Ok(r) => self.accept(rt, r, &output[..stepped.octets]),
         }
     }
 
     // All frames of the recording; the last may be short, and is refused then. A proved loop has to end, so the turns are counted,
     // up to a number that no recording reaches.
     fn frames(&mut self, rt: &HostRuntime, file: &mut File) {
+        let mut store = [0u8; Store::LEN];
+        let mut output = [0u8; Output::MIN];
         let mut room = [0u8; SetUp::MAX];
         // The length, which is at most MAX in a set-up that fits.
         let n = self.set.length.min(SetUp::MAX);
@@ -83,7 +78,7 @@ impl Run {
             if got == 0 {
                 return;
             }
-            self.one(rt, &room[..got]);
+            self.one(rt, &room[..got], &mut store, &mut output);
             if got < n {
                 return;
             }

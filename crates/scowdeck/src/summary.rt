@@ -3,6 +3,7 @@ use crate::recording::Run;
 use files::{Out, finished};
 use frame::Header;
 use lines::channel;
+use printing::say;
 
 pub fn summary(rt: &HostRuntime, run: &Run, out: &Out) {
     let work = run.work;
@@ -18,17 +19,25 @@ pub fn summary(rt: &HostRuntime, run: &Run, out: &Out) {
             out.name(v).as_slice(),
             work.saved[v],
         );
-        let _ = println!(rt; " saved={}", if saved { "yes" } else { "no" });
+        let word = if saved { " saved=yes" } else { " saved=no" };
+        say(rt, format_args!("{word}\n"));
         complete &= saved;
     }
     let rec = work.desk.rec;
-    let _ = println!(rt;
-        "end frames={} refused={} busy_mask={} busy_channels={} lowest_busy={} result={}",
-        totals.frames,
-        totals.refused,
-        rec.busy(),
-        rec.busy_count(),
-        rec.lowest_busy(),
-        if complete { "complete" } else { "incomplete" }
+    say(
+        rt,
+        format_args!(
+            "end frames={} refused={} busy_mask={} busy_channels={} lowest_busy={}{}\n",
+            totals.frames,
+            totals.refused,
+            rec.busy(),
+            rec.busy_count(),
+            rec.lowest_busy(),
+            if complete {
+                " result=complete"
+            } else {
+                " result=incomplete"
+            }
+        ),
     );
 }

@@ -1,39 +1,54 @@
 // The octets of a case: words of hex digits in pairs, and words *N, which have the octet before them stand N times in all.
-ghost use Rattle.std.specs.Prelude.{◌≡◌, []};
+ghost use Rattle.std.specs.Prelude.{◌≡◌, ◌≤◌, take};
 
 use crate::hex::pair;
 use crate::words::number;
-use arrayvec::ArrayVec;
 
 // How many octets of a case there is room for. One that there is no room for is left out.
 const ROOM: usize = 70000;
 
-// No Vec: the program never stops for lack of memory.
+// No Vec: the program never stops for lack of memory. And no ArrayVec: its `clear` writes over what was there, and it takes octets in one by one
+// or from a slice, so that a word *N takes longer.
 #[derive(Drop)]
-pub struct Given(ArrayVec<u8, ROOM>);
+pub struct Given {
+    room: [u8; ROOM],
+    len: usize,
+    ghost fits: { len ≤ 70000 },
+}
 
 impl Given {
     pub fn new() -> Given
-        ensures { result.0.items ≡ [] }
+        ensures { result.len ≡ 0 }
     {
-        Given(ArrayVec::new())
+        Given {
+            room: [0; ROOM],
+            len: 0,
+        }
     }
 
     pub fn octets(&self) -> &[u8]
-        ensures { result.now ≡ self.now.0.items }
+        ensures { result.now ≡ take self.now.len self.now.room }
     {
-        self.0.as_slice()
+        &self.room[..self.len]
+    }
+
+    fn push(&mut self, octet: u8) {
+        if self.len < ROOM {
+            self.room[self.len] = octet;
+            self.len += 1;
+        }
     }
 
     // The last octet so many times in all; as often as it stands where there is no room for that.
     fn repeat(&mut self, times: usize) {
-        let Some(last) = self.0.as_slice().last().copied() else {
+        let Some(last) = self.octets().last().copied() else {
             return;
         };
-        if times.saturating_sub(1) <= self.0.remaining_capacity() {
-            for _ in 1..times {
-                let _ = self.0.try_push(last);
-            }
+        let more = times.saturating_sub(1);
+        if more <= ROOM - self.len {
+            let end = self.len + more;
+            self.room[self.len..end].fill(last);
+            self.len = end;
         }
     }
 
@@ -42,7 +57,7 @@ impl Given {
             [b'*', times @ ..] => self.repeat(number(times)),
             _ => {
                 for digits in word.chunks_exact(2) {
-                    let _ = self.0.try_push(pair(digits[0], digits[1]));
+                    self.push(pair(digits[0], digits[1]));
                 }
             }
         }
@@ -50,7 +65,7 @@ impl Given {
 
     // The octets of these words, in place of those before.
     pub fn take(&mut self, words: &[u8]) {
-        self.0.clear();
+        self.len = 0;
         for word in words.split(|b| *b == b' ') {
             self.word(word);
         }

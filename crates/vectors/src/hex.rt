@@ -10,14 +10,14 @@ pub fn pair(high: u8, low: u8) -> u8 {
     digit(high) % 16 * 16 + digit(low) % 16
 }
 
-// Octets to be printed.
+// Octets to be printed, each a piece.
 #[derive(Clone, Copy)]
 pub struct Hex<'a>(pub &'a [u8]);
 
 impl<'a> fmt::Display for Hex<'a> {
     fn fmt<W: fmt::Write>(&self, f: &mut fmt::Formatter<W>) -> fmt::Result {
         for b in self.0 {
-            write!(f, "{b:02x}")?;
+            write!(f, "{}", printing::Hex::<2>(u32::from(*b)))?;
         }
         Ok(())
     }

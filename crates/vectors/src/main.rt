@@ -22,9 +22,8 @@ mod words;
 use commands::{Command, read};
 use given::Given;
 use input::read_full;
-use std::io;
 
-fn perform(rt: &impl Print, command: Command, octets: &[u8]) -> io::Result<()> {
+fn perform(rt: &impl Print, command: Command, octets: &[u8]) {
     match command {
         Command::Chain => packets::chain(rt, octets),
         Command::Distance(offset) => packets::distance(rt, offset, octets),
@@ -35,14 +34,16 @@ fn perform(rt: &impl Print, command: Command, octets: &[u8]) -> io::Result<()> {
     }
 }
 
-fn interpret(rt: &impl Print, line: &[u8], given: &mut Given) -> io::Result<()> {
+fn interpret(rt: &impl Print, line: &[u8], given: &mut Given) {
     match line {
-        [] => Ok(()),
-        [b'#', ..] => rt.write_all(line),
+        [] => {}
+        [b'#', ..] => {
+            let _ = rt.write_all(line);
+        }
         [letter, rest @ ..] => {
             let (command, words) = read(*letter, rest);
             given.take(words);
-            perform(rt, command, given.octets())
+            perform(rt, command, given.octets());
         }
     }
 }
@@ -51,8 +52,8 @@ fn interpret(rt: &impl Print, line: &[u8], given: &mut Given) -> io::Result<()> 
 fn run_script(rt: &impl Print, script: &[u8]) {
     let mut given = Given::new();
     for line in script.split_inclusive(|b| *b == b'\n') {
-        let _ = interpret(rt, line.strip_suffix(b"\n").unwrap_or(line), &mut given);
-        let _ = println!(rt);
+        interpret(rt, line.strip_suffix(b"\n").unwrap_or(line), &mut given);
+        let _ = rt.write_all(b"\n");
     }
 }
 

@@ -1,20 +1,20 @@
 // What the first octets of a packet tell, chains, and gaps between counts.
 use frame::ChannelCount;
 use packet::{Header, Packet, Size};
-use std::io;
+use printing::say;
 
-pub fn size(rt: &impl Print, seen: &[u8]) -> io::Result<()> {
+pub fn size(rt: &impl Print, seen: &[u8]) {
     let (tells, total) = match Packet::size(seen) {
-        Size::Wait => ("wait", 0),
-        Size::Foreign => ("foreign", 0),
-        Size::Total(n) => ("total", n),
+        Size::Wait => ("size tells=wait total=", 0),
+        Size::Foreign => ("size tells=foreign total=", 0),
+        Size::Total(n) => ("size tells=total total=", n),
     };
-    print!(rt; "size tells={tells} total={total}")
+    say(rt, format_args!("{tells}{total}"));
 }
 
-pub fn header(rt: &impl Print, seen: &[u8]) -> io::Result<()> {
+pub fn header(rt: &impl Print, seen: &[u8]) {
     if seen.len() < Packet::HEADER {
-        return print!(rt; "header outside");
+        return say(rt, "header outside");
     }
     let Header {
         version,
@@ -26,21 +26,30 @@ pub fn header(rt: &impl Print, seen: &[u8]) -> io::Result<()> {
         total,
     } = Header::of(seen);
     let secondary = u8::from(secondary);
-    print!(rt;
-        "header version={version} type={type_bit} secondary={secondary} application={application}"
-    )?;
-    print!(rt; " grouping={grouping} sequence={sequence} total={total}")
+    say(
+        rt,
+        format_args!(
+            "header version={version} type={type_bit} secondary={secondary} application={application} \
+             grouping={grouping} sequence={sequence} total={total}"
+        ),
+    );
 }
 
-pub fn chain(rt: &impl Print, run: &[u8]) -> io::Result<()> {
-    print!(rt; "chain whole={}", u8::from(chain::is_chain(run)))
+pub fn chain(rt: &impl Print, run: &[u8]) {
+    say(
+        rt,
+        format_args!("chain whole={}", u8::from(chain::is_chain(run))),
+    );
 }
 
-pub fn distance(rt: &impl Print, offset: usize, run: &[u8]) -> io::Result<()> {
+pub fn distance(rt: &impl Print, offset: usize, run: &[u8]) {
     if offset <= run.len() && chain::is_chain(run) {
-        print!(rt; "distance octets={}", chain::distance(run, offset))
+        say(
+            rt,
+            format_args!("distance octets={}", chain::distance(run, offset)),
+        );
     } else {
-        print!(rt; "distance outside")
+        say(rt, "distance outside");
     }
 }
 
@@ -48,6 +57,9 @@ fn count(n: usize) -> ChannelCount {
     ChannelCount((n % 256) as u8)
 }
 
-pub fn gap(rt: &impl Print, n: usize, last: usize) -> io::Result<()> {
-    print!(rt; "gap missing={}", count(n).gap(count(last)))
+pub fn gap(rt: &impl Print, n: usize, last: usize) {
+    say(
+        rt,
+        format_args!("gap missing={}", count(n).gap(count(last))),
+    );
 }
