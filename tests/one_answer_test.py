@@ -4,7 +4,8 @@
     python3 tests/one_answer_test.py [ROOT]
 
 A public operation is a function that another crate, or C, can name: a `pub fn` of a crate's root file, one that the root passes on by
-`pub use`, or an associated one. Forms of `pub`, and traits by hand, that this test does not know are errors, so that none is passed over. Only the parts of
+`pub use`, or an associated one. Forms of `pub` and of `impl`, and traits by hand, that this test does not know are errors, so that none is
+passed over; so is a type that holds a borrow, but for gathering's `Field`, since what is left behind it would not be seen. Only the parts of
 decision 15 may have a `requires`. What C calls are the functions of the static libraries, which no crate can cite: each has to be, word for
 word in its head and its clauses, a function of a library that has its field, and to call that one alone. A line for each thing that is
 wrong, and exit status 1.
@@ -17,7 +18,7 @@ ROOT = Path(sys.argv[1] if len(sys.argv) > 1 else __file__).resolve()
 ROOT = ROOT if ROOT.is_dir() else ROOT.parent.parent
 
 # Libraries without operations of the paper: theorems alone, and parts of the program (docs/PROMISES.md says why).
-APART = {"demands", "read_back", "nothing_glued", "bench", "one_answer", "desk", "lines", "files", "input", "keeping"}
+APART = {"demands", "read_back", "nothing_glued", "bench", "one_answer", "desk", "lines", "files", "input", "printing", "keeping"}
 # Decision 15: parts that ask something of their arguments.
 PARTS = {
     "octets": {"octet", "octet_across", "copy", "fill"},
@@ -40,10 +41,11 @@ HEAD = re.compile(rf"^( *)pub fn (\w+)({SIZE})?\(((?:[^()]|\(\))*)\)(?: -> ([^{{
 CLAUSE = re.compile(r"\s*(requires|ensures)( \w+)? \{")
 KNOWN = re.compile(
     rf"^ *(?:pub fn \w+(?:{SIZE})?\("
-    r"|pub struct \w+(?:<'a>)?(?: \{|;|\((?:pub \w+(?:, )?)+\);)|pub enum \w+ \{|pub const [A-Z_]+: |pub use \w+::(?:\w+;|\{)|pub \w+: )"
+    r"|pub struct (?:\w+|Field<'a>)(?: \{|;|\((?:pub \w+(?:, )?)+\);)|pub enum \w+ \{|pub const [A-Z_]+: |pub use \w+::(?:\w+;|\{)|pub \w+: )"
 )
 # Traits that a library's type has by hand, with clauses of their own and edits; what is derived has the clauses of the toolchain's derives.
 TRAITS = {"reading": {"From<frame::Refusal> for Refusal"}}
+IMPL = re.compile(r"^impl(?:<'a>)? (\w+)(?:<'a>)? \{", re.M)
 PASSED_ON = re.compile(r"^pub use \w+::(?:(\w+)|\{([\w\s,]+)\});$", re.M)
 EXPORT = re.compile(r'^#\[unsafe\(no_mangle\)\]\npub extern "C" fn ', re.M)
 
@@ -97,7 +99,11 @@ def operations(crate, wrong):
         for line in text.splitlines():
             if re.search(r"\b(?:pub|extern|no_mangle)\b", line.split("//")[0]) and not KNOWN.match(line):
                 wrong.append(f"{crate}: {path.name}: a form of `pub` that is not known: {line.strip()}")
-        for said in re.findall(r"^ *(?:unsafe )?impl\b(?:<[^{]*?>)? ([^{]* for [^{]*?)(?: where [^{]*)? \{", text, re.M):
+            if re.search(r"\bimpl\b", line.split("//")[0]) and not IMPL.match(line) and " for " not in line.split("//")[0]:
+                wrong.append(f"{crate}: {path.name}: a form of `impl` that is not known: {line.strip()}")
+            if re.search(r"&\s*'\w+\s+mut\b", line.split("//")[0]):
+                wrong.append(f"{crate}: {path.name}: what a call leaves behind this is not seen here: {line.strip()}")
+        for said in re.findall(r"^ *(?:unsafe )?impl\b(?:<[^{]*?>)? ([^{]* for [^{]*?)(?:\s+where\s[^{]*)?\s*\{", text, re.M):
             if said not in TRAITS.get(crate, set()):
                 wrong.append(f"{crate}: {path.name}: a trait by hand that this test does not know: {said}")
         for start, inside, name, size, params, result, clauses, _ in functions(text):
@@ -105,7 +111,7 @@ def operations(crate, wrong):
             if size and (inside or "[" in (result or "") and not array):
                 wrong.append(f"{crate}: {name}: a size that this test cannot read")
             if inside:
-                kind = re.findall(r"^impl(?:<'a>)? (\w+)(?:<'a>)? \{", text[:start], re.M)[-1]
+                kind = IMPL.findall(text[:start])[-1]
                 name = f"{kind}.{name}" if homes[kind] == "lib" else f"{homes[kind]}.{kind}.{name}"
             elif not (path.name == "lib.rt" or name in passed_on):
                 continue
