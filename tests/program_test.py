@@ -135,6 +135,8 @@ def wrong_runs(folder):
 # What the program writes at one go.
 PIECE = re.compile(r' why="|"|\n|(?<= why=")[^"]+| (?:kind|saved|result)=[a-z]+| (?:word|check)=none|(?:end )?(?: |\b)[a-z_]+=|[0-9a-f]+')
 PAGE = 4096
+# Linux's F_SETPIPE_SZ, which Python's fcntl has from 3.10 on.
+SET_SIZE = 1031
 
 
 def in_pieces(folder):
@@ -156,7 +158,7 @@ def in_pieces(folder):
                 fits.append(piece)
                 left -= len(piece)
         there, here = os.pipe()
-        filled = fcntl.fcntl(here, fcntl.F_SETPIPE_SZ, PAGE) - room
+        filled = fcntl.fcntl(here, SET_SIZE, PAGE) - room
         os.write(here, b"." * filled)
         os.set_blocking(here, False)
         out = os.path.join(tempfile.mkdtemp(dir=folder), "c")
