@@ -1,5 +1,6 @@
 // The octets of a case: words of hex digits in pairs, and words *N, which have the octet before them stand N times in all.
 ghost use Rattle.std.specs.Prelude.{◌≡◌, ◌≤◌, take};
+ghost use Rattle.vectors.specs.declared.given.TheConstants.{ROOM};
 
 use crate::hex::pair;
 use crate::words::number;
@@ -13,7 +14,7 @@ const ROOM: usize = 70000;
 pub struct Given {
     room: [u8; ROOM],
     len: usize,
-    ghost fits: { len ≤ 70000 },
+    ghost fits: { len ≤ ROOM },
 }
 
 impl Given {
